@@ -1,0 +1,4 @@
+pub mod Linear
+pub mod Ring
+pub mod Combinations
+pub mod Identities

@@ -1,0 +1,88 @@
+// Linear forms and their values.
+ghost use Rattle.std.specs.Prelude.{◌≡◌, ◌+◌, ◌*ℤ◌, IfSome, IfNone};
+ghost use Rattle.srs_num.specs.Points.{LinearForm, value, opposite, IsFormSized};
+
+use crate::{Corner, Pt, Steps};
+use std::marker::Model;
+use std::sync::ledger::Ledger;
+
+/// The linear form `a*x + b*y + c`. Its three numbers are at most 2^38 in magnitude.
+#[derive(Clone, Copy, Debug, PartialEq, Eq, Drop)]
+pub struct Form {
+    a: i64,
+    b: i64,
+    c: i64,
+}
+
+impl Model for Form {
+    ghost use Rattle.srs_num.specs.Points.{LinearForm, IsFormSized};
+
+    ghost Value = { LinearForm };
+
+    ghost view = { λ f. record { a = f.a; b = f.b; c = f.c } };
+
+    ghost invariant = { λ f. IsFormSized (record { a = f.a; b = f.b; c = f.c }) };
+
+    ghost inverse = { λ f. record { a = f.a; b = f.b; c = f.c } };
+}
+
+const MOST: i64 = 1 << 38;
+
+impl Form {
+    /// `None` exactly where one of the three is beyond 2^38 in magnitude.
+    pub fn new(a: i64, b: i64, c: i64) -> Option<Form>
+        ensures some { IfSome result (λ f. f ≡ record { a = a; b = b; c = c }) }
+        ensures none { IfNone result (IsFormSized (record { a = a; b = b; c = c }) → ⊥) }
+    {
+        if a < -MOST || a > MOST || b < -MOST || b > MOST || c < -MOST || c > MOST {
+            return None;
+        }
+        Some(Form { a, b, c })
+    }
+
+    /// The three numbers.
+    pub fn parts(&self) -> (i64, i64, i64)
+        ensures a { result.0 ≡ self.now.a }
+        ensures b { result.1 ≡ self.now.b }
+        ensures c { result.2 ≡ self.now.c }
+        ensures sized { IsFormSized self.now }
+    {
+        (self.a, self.b, self.c)
+    }
+
+    /// All three numbers negated.
+    pub fn opposite(&self) -> Form
+        ensures { result ≡ opposite self.now }
+    {
+        Form {
+            a: -self.a,
+            b: -self.b,
+            c: -self.c,
+        }
+    }
+
+    /// The value at the point. It is one step.
+    pub fn at<L: Ledger>(&self, r: &Pt, steps: &mut Steps<L>) -> i128
+        ensures value { result ≡ value self.now r.now }
+        ensures one_step { steps.new ≡ steps.old + 1 }
+    {
+        steps.tick();
+        let (p, q, d) = r.parts();
+        product(self.a, p) + product(self.b, q) + product(self.c, d)
+    }
+
+    /// The value at the corner.
+    pub fn at_corner(&self, c: &Corner) -> i128
+        ensures { result ≡ value self.now c.now }
+    {
+        let (p, q, d) = c.parts();
+        i128::from(self.a) * p + i128::from(self.b) * q + i128::from(self.c) * d
+    }
+}
+
+/// The exact product.
+pub fn product(a: i64, b: i64) -> i128
+    ensures { result ≡ a *ℤ b }
+{
+    i128::from(a) * i128::from(b)
+}

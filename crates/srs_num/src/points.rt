@@ -1,0 +1,92 @@
+// Points with rational coordinates: those that are asked about, and the corners of cells.
+ghost use Rattle.std.specs.Prelude.{◌≡◌, ◌-◌, ◌^◌, ◌↔◌, IsTrue, IfSome, IfNone};
+ghost use Rattle.srs_num.specs.Points.{IsPtSized, IsPointWithin, IsNear};
+
+use std::marker::Model;
+
+/// The point `(p / d, q / d)`, with `d` from 1 to 2^40 and `p` and `q` at most 2^42 in magnitude.
+#[derive(Clone, Copy, Debug, PartialEq, Eq, Drop)]
+pub struct Pt {
+    p: i64,
+    q: i64,
+    d: i64,
+}
+
+impl Model for Pt {
+    ghost use Rattle.srs_num.specs.Points.{Point, IsPtSized};
+
+    ghost Value = { Point };
+
+    ghost view = { λ r. record { p = r.p; q = r.q; d = r.d } };
+
+    ghost invariant = { λ r. IsPtSized (record { p = r.p; q = r.q; d = r.d }) };
+
+    ghost inverse = { λ r. record { p = r.p; q = r.q; d = r.d } };
+}
+
+const MOST: i64 = 1 << 42;
+const DEEPEST: i64 = 1 << 40;
+
+impl Pt {
+    /// `None` exactly where `d` isn't 1 to 2^40 or one of the others is beyond 2^42 in magnitude.
+    pub fn new(p: i64, q: i64, d: i64) -> Option<Pt>
+        ensures some { IfSome result (λ r. r ≡ record { p = p; q = q; d = d }) }
+        ensures none { IfNone result (IsPtSized (record { p = p; q = q; d = d }) → ⊥) }
+    {
+        if d < 1 || d > DEEPEST || p < -MOST || p > MOST || q < -MOST || q > MOST {
+            return None;
+        }
+        Some(Pt { p, q, d })
+    }
+
+    /// The three numbers.
+    pub fn parts(&self) -> (i64, i64, i64)
+        ensures p { result.0 ≡ self.now.p }
+        ensures q { result.1 ≡ self.now.q }
+        ensures d { result.2 ≡ self.now.d }
+        ensures sized { IsPtSized self.now }
+    {
+        (self.p, self.q, self.d)
+    }
+
+    /// Whether both coordinates are at most 4 in magnitude.
+    pub fn near(&self) -> bool
+        ensures { IsTrue result ↔ IsNear self.now }
+    {
+        let most = 4 * self.d;
+        -most <= self.p && self.p <= most && -most <= self.q && self.q <= most
+    }
+}
+
+/// A corner of a cell, or a sum of corners: the point `(p / d, q / d)`, with `d` at least 1 and magnitudes below 2^84.
+#[derive(Clone, Copy, Debug, PartialEq, Eq, Drop)]
+pub struct Corner {
+    p: i128,
+    q: i128,
+    d: i128,
+}
+
+impl Model for Corner {
+    ghost use Rattle.std.specs.Prelude.{◌-◌, ◌^◌};
+    ghost use Rattle.srs_num.specs.Points.{Point, IsPointWithin};
+
+    ghost Value = { Point };
+
+    ghost view = { λ r. record { p = r.p; q = r.q; d = r.d } };
+
+    ghost invariant = { λ r. IsPointWithin (2 ^ 84 - 1) (record { p = r.p; q = r.q; d = r.d }) };
+
+    ghost inverse = { λ r. record { p = r.p; q = r.q; d = r.d } };
+}
+
+impl Corner {
+    /// The three numbers.
+    pub fn parts(&self) -> (i128, i128, i128)
+        ensures p { result.0 ≡ self.now.p }
+        ensures q { result.1 ≡ self.now.q }
+        ensures d { result.2 ≡ self.now.d }
+        ensures sized { IsPointWithin (2 ^ 84 - 1) self.now }
+    {
+        (self.p, self.q, self.d)
+    }
+}
