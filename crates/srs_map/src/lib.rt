@@ -1,0 +1,9 @@
+//! The shift radix map of a parameter, its orbits, and the laws that a finite set of pairs decides by.
+//!
+//! The map and the set of finite parameters are those of Akiyama, Borbély, Brunotte, Pethő and Thuswaldner,
+//! "Generalized radix representations and dynamical systems I" (2005).
+#![tactic(auto)]
+
+mod orbits;
+
+pub use orbits::{OrbitEnd, step};
