@@ -1,4 +1,6 @@
 pub mod Linear
 pub mod Ring
+pub mod Ranges
+pub mod Floors
 pub mod Combinations
 pub mod Identities

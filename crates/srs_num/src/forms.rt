@@ -1,6 +1,6 @@
 // Linear forms and their values.
-ghost use Rattle.std.specs.Prelude.{◌≡◌, ◌+◌, ◌*ℤ◌, IfSome, IfNone};
-ghost use Rattle.srs_num.specs.Points.{LinearForm, value, opposite, IsFormSized};
+ghost use Rattle.std.specs.Prelude.{◌≡◌, ◌+◌, ◌-◌, ◌^◌, ◌*ℤ◌, IfSome, IfNone};
+ghost use Rattle.srs_num.specs.Points.{LinearForm, value, opposite, IsFormSized, IsWithin};
 
 use crate::{Corner, Pt, Steps};
 use std::marker::Model;
@@ -68,7 +68,7 @@ impl Form {
     {
         steps.tick();
         let (p, q, d) = r.parts();
-        product(self.a, p) + product(self.b, q) + product(self.c, d)
+        self.dot(p as i128, q as i128, d as i128)
     }
 
     /// The value at the corner.
@@ -76,7 +76,17 @@ impl Form {
         ensures { result ≡ value self.now c.now }
     {
         let (p, q, d) = c.parts();
-        i128::from(self.a) * p + i128::from(self.b) * q + i128::from(self.c) * d
+        self.dot(p, q, d)
+    }
+
+    // a*p + b*q + c*d.
+    fn dot(&self, p: i128, q: i128, d: i128) -> i128
+        requires p { IsWithin (2 ^ 84 - 1) p }
+        requires q { IsWithin (2 ^ 84 - 1) q }
+        requires d { IsWithin (2 ^ 84 - 1) d }
+        ensures { result ≡ value self.now (record { p = p; q = q; d = d }) }
+    {
+        self.a as i128 * p + self.b as i128 * q + self.c as i128 * d
     }
 }
 

@@ -1,6 +1,6 @@
 // Points with rational coordinates: those that are asked about, and the corners of cells.
-ghost use Rattle.std.specs.Prelude.{◌≡◌, ◌-◌, ◌^◌, ◌↔◌, IsTrue, IfSome, IfNone};
-ghost use Rattle.srs_num.specs.Points.{IsPtSized, IsPointWithin, IsNear};
+ghost use Rattle.std.specs.Prelude.{◌≡◌, ◌-◌, ◌^◌, ◌↔◌, pos, neg_ℤ, ◌*ℤ◌, ◌≤ℤ◌, IsTrue, IfSome, IfNone};
+ghost use Rattle.srs_num.specs.Points.{IsPtSized, IsPointWithin, IsNear, IsWithin};
 
 use std::marker::Model;
 
@@ -53,9 +53,17 @@ impl Pt {
     pub fn near(&self) -> bool
         ensures { IsTrue result ↔ IsNear self.now }
     {
-        let most = 4 * self.d;
-        -most <= self.p && self.p <= most && -most <= self.q && self.q <= most
+        is_near(self.p, self.d) && is_near(self.q, self.d)
     }
+}
+
+// Whether z / d is at most 4 in magnitude.
+fn is_near(z: i64, d: i64) -> bool
+    requires low { pos 1 ≤ℤ d }
+    requires high { IsWithin (2 ^ 40) d }
+    ensures { IsTrue result ↔ ((neg_ℤ (pos 4 *ℤ d) ≤ℤ z) × (z ≤ℤ (pos 4 *ℤ d))) }
+{
+    -4 * d <= z && z <= 4 * d
 }
 
 /// A corner of a cell, or a sum of corners: the point `(p / d, q / d)`, with `d` at least 1 and magnitudes below 2^84.

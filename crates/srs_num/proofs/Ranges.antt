@@ -1,0 +1,98 @@
+-- Magnitudes of sums, differences and products, and that they fit.
+use Rattle.std.proofs.Common.{◌≡◌, ℕ, ◌+◌, ◌*◌, ◌^◌, ◌<◌, ◌≤◌, ℤ, pos, negsuc, ◌+ℤ◌, ◌-ℤ◌, ◌*ℤ◌, neg_ℤ, ◌≤ℤ◌, ◌<ℤ◌, unsigned_abs, FitsSigned, w64, refl, sym, ap, ◌∙◌, arith, mul-le-mul, lit<, lit≤}
+use Rattle.std.proofs.lemmas.Int.{ints, unsigned_abs-mul, fits_signed_from_abs}
+use Rattle.std.specs.Int.{w128, Width}
+use Rattle.srs_num.specs.Points.{IsWithin}
+use mir.Val.{hbits}
+
+pub within_product : (a b : ℤ) (m n : ℕ) → IsWithin m a → IsWithin n b → IsWithin (m * n) (a *ℤ b)
+within_product a b m n h k = rw (unsigned_abs-mul a b) (mul-le-mul h k)
+
+pub within_sum : (a b : ℤ) (m n : ℕ) → IsWithin m a → IsWithin n b → IsWithin (m + n) (a +ℤ b)
+within_sum a b m n h k = omega (arith, ints)
+
+pub within_difference : (a b : ℤ) (m n : ℕ) → IsWithin m a → IsWithin n b → IsWithin (m + n) (a -ℤ b)
+within_difference a b m n h k = omega (arith, ints)
+
+pub within_opposite : (a : ℤ) (m : ℕ) → IsWithin m a → IsWithin m (neg_ℤ a)
+within_opposite a m h = omega (arith, ints)
+
+-- three products and their sum, in 128 bits
+pub record DotFits (a b c p q d : ℤ) : Type 0 where
+  pub first : FitsSigned w128 (a *ℤ p)
+  pub second : FitsSigned w128 (b *ℤ q)
+  pub third : FitsSigned w128 (c *ℤ d)
+  pub two : FitsSigned w128 (a *ℤ p +ℤ b *ℤ q)
+  pub all : FitsSigned w128 (a *ℤ p +ℤ b *ℤ q +ℤ c *ℤ d)
+
+pub dot_fits : (a b c p q d : ℤ) (m n : ℕ) → IsWithin m a → IsWithin m b → IsWithin m c → IsWithin n p → IsWithin n q → IsWithin n d
+    → 3 * (m * n) < 2 ^ 127 → DotFits a b c p q d
+dot_fits a b c p q d m n ha hb hc hp hq hd lt =
+    let x = within_product a p m n ha hp in
+    let y = within_product b q m n hb hq in
+    let z = within_product c d m n hc hd in
+    let xy = within_sum (a *ℤ p) (b *ℤ q) (m * n) (m * n) x y in
+    let xyz = within_sum (a *ℤ p +ℤ b *ℤ q) (c *ℤ d) (m * n + m * n) (m * n) xy z in
+    record {
+      first = fits_signed_from_abs w128 _ (below (m * n) (m * n) (unsigned_abs (a *ℤ p)) x (omega arith) lt);
+      second = fits_signed_from_abs w128 _ (below (m * n) (m * n) (unsigned_abs (b *ℤ q)) y (omega arith) lt);
+      third = fits_signed_from_abs w128 _ (below (m * n) (m * n) (unsigned_abs (c *ℤ d)) z (omega arith) lt);
+      two = fits_signed_from_abs w128 _ (below (m * n) (m * n + m * n) (unsigned_abs (a *ℤ p +ℤ b *ℤ q)) xy (omega arith) lt);
+      all = fits_signed_from_abs w128 _ (below (m * n) (m * n + m * n + m * n) (unsigned_abs (a *ℤ p +ℤ b *ℤ q +ℤ c *ℤ d)) xyz (omega arith) lt)
+    }
+  where
+    below : (k j x : ℕ) → x ≤ j → j ≤ 3 * k → 3 * k < 2 ^ 127 → x < 2 ^ hbits w128
+    below k j x h i l = omega arith
+
+pub within_more : (z : ℤ) (m n : ℕ) → IsWithin m z → m ≤ n → IsWithin n z
+within_more z m n h k = omega arith
+
+pub small_fits : (w : Width) (z : ℤ) (m : ℕ) → IsWithin m z → m < 2 ^ hbits w → FitsSigned w z
+small_fits w z m h k = fits_signed_from_abs w z (omega arith)
+
+-- a difference of two products of numbers of a form, in 128 bits
+pub record MinorFits (a b c d : ℤ) : Type 0 where
+  pub a64 : FitsSigned w64 a
+  pub b64 : FitsSigned w64 b
+  pub c64 : FitsSigned w64 c
+  pub d64 : FitsSigned w64 d
+  pub a128 : FitsSigned w128 a
+  pub b128 : FitsSigned w128 b
+  pub c128 : FitsSigned w128 c
+  pub d128 : FitsSigned w128 d
+  pub first : FitsSigned w128 (a *ℤ d)
+  pub second : FitsSigned w128 (b *ℤ c)
+  pub all : FitsSigned w128 (a *ℤ d -ℤ b *ℤ c)
+  pub size : IsWithin (2 ^ 77) (a *ℤ d -ℤ b *ℤ c)
+
+pub minor_fits : (a b c d : ℤ) → IsWithin (2 ^ 38) a → IsWithin (2 ^ 38) b → IsWithin (2 ^ 38) c → IsWithin (2 ^ 38) d → MinorFits a b c d
+minor_fits a b c d ha hb hc hd =
+    let x = within_product a d (2 ^ 38) (2 ^ 38) ha hd in
+    let y = within_product b c (2 ^ 38) (2 ^ 38) hb hc in
+    let xy = within_difference (a *ℤ d) (b *ℤ c) _ _ x y in
+    record {
+      a64 = small_fits w64 a _ ha (lit< tt);
+      b64 = small_fits w64 b _ hb (lit< tt);
+      c64 = small_fits w64 c _ hc (lit< tt);
+      d64 = small_fits w64 d _ hd (lit< tt);
+      a128 = small_fits w128 a _ ha (lit< tt);
+      b128 = small_fits w128 b _ hb (lit< tt);
+      c128 = small_fits w128 c _ hc (lit< tt);
+      d128 = small_fits w128 d _ hd (lit< tt);
+      first = small_fits w128 (a *ℤ d) _ x (lit< tt);
+      second = small_fits w128 (b *ℤ c) _ y (lit< tt);
+      all = small_fits w128 (a *ℤ d -ℤ b *ℤ c) _ xy (lit< tt);
+      size = xy
+    }
+
+pub within_turned : (m : ℕ) (p : ℤ) → IsWithin m p → IsWithin m (pos 0 -ℤ p)
+within_turned m p h = omega (arith, ints)
+
+pub within_of : (m : ℕ) (z : ℤ) → neg_ℤ (pos m) ≤ℤ z → z ≤ℤ pos m → IsWithin m z
+within_of m z h k = omega (arith, ints)
+
+pub above_within : (m : ℕ) (z : ℤ) → IsWithin m z → neg_ℤ (pos m) ≤ℤ z
+above_within m z h = omega (arith, ints)
+
+pub below_within : (m : ℕ) (z : ℤ) → IsWithin m z → z ≤ℤ pos m
+below_within m z h = omega (arith, ints)
