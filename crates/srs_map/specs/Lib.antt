@@ -1,3 +1,4 @@
 pub mod Step
 pub mod Finiteness
 pub mod Orbits
+pub mod Links
