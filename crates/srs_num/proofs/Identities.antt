@@ -1,7 +1,7 @@
 -- The identities of the plane that the proofs of the cells stand on.
 use Rattle.std.proofs.Common.{◌≡◌, ℕ, zero, suc, ◌+◌, List, [], ◌∷◌, ℤ, pos, negsuc, ◌+ℤ◌, ◌-ℤ◌, ◌*ℤ◌, neg_ℤ, refl, sym, ap, ◌∙◌, arith}
 use Rattle.srs_num.specs.Points.{LinearForm, Point, value, opposite}
-use Rattle.srs_num.specs.Lines.{meet, edge_form}
+use Rattle.srs_num.specs.Lines.{meet, edge_form, plus}
 use Rattle.srs_num.proofs.Linear.{linear}
 use Rattle.srs_num.proofs.Combinations.{combine, mix, depth}
 use Rattle.srs_num.proofs.Ring.{Expr, v, lit, ◌⊕◌, ◌⊖◌, ◌⊗◌, minus, evaluate, ring}
@@ -145,7 +145,6 @@ pub value-nothing : (f : LinearForm) → value f (record { p = pos 0; q = pos 0;
 unfolding value
 value-nothing f = ring (of_form f []) (v 0 ⊗ lit (pos 0) ⊕ v 1 ⊗ lit (pos 0) ⊕ v 2 ⊗ lit (pos 0)) (lit (pos 0)) tt
 
-
 -- what the code of `opposite` computes
 pub opposite_is : (a b c : ℤ) → ◌≡◌ {A = LinearForm} (record { a = pos 0 -ℤ a; b = pos 0 -ℤ b; c = pos 0 -ℤ c }) (opposite (record { a = a; b = b; c = c }))
 unfolding opposite
@@ -155,3 +154,12 @@ opposite_is a b c = same _ _ _ _ _ _ (turn a) (turn b) (turn c)
     turn a = omega (arith, linear)
     same : (a b c x y z : ℤ) → a ≡ x → b ≡ y → c ≡ z → ◌≡◌ {A = LinearForm} (record { a = a; b = b; c = c }) (record { a = x; b = y; c = z })
     same a b c x y z e f g = cc
+
+pub value-plus : (f : LinearForm) (u w : Point) → value f (plus u w) ≡ value f u +ℤ value f w
+unfolding value plus
+value-plus f u w =
+    let F = triple 0 in let U = triple 3 in let W = triple 6 in
+    ring (of_form f (of_point u (of_point w [])))
+        (F.x ⊗ (U.x ⊕ W.x) ⊕ F.y ⊗ (U.y ⊕ W.y) ⊕ F.z ⊗ (U.z ⊕ W.z))
+        (dot F U ⊕ dot F W)
+        tt

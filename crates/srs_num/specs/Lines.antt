@@ -1,5 +1,5 @@
 -- Where two lines cross, and the form of the line through two points.
-use Rattle.std.specs.Prelude.{◌≡◌, ◌⊎◌, ◌^◌, pos, ◌-ℤ◌, ◌*ℤ◌}
+use Rattle.std.specs.Prelude.{◌≡◌, ◌⊎◌, ◌^◌, List, [], ◌∷◌, pos, ◌+ℤ◌, ◌-ℤ◌, ◌*ℤ◌}
 use Rattle.srs_num.specs.Points.{Point, LinearForm, value, IsPointWithin}
 
 -- where the lines of two forms cross, up to the sign of its three numbers; d is 0 where they are parallel
@@ -17,6 +17,15 @@ edge_form u w = record {
   b = u.d *ℤ w.p -ℤ u.p *ℤ w.d;
   c = u.p *ℤ w.q -ℤ u.q *ℤ w.p
 }
+
+-- the numbers of u and w added up, which gives a point between the two
+unfoldable pub plus : Point → Point → Point
+plus u w = record { p = u.p +ℤ w.p; q = u.q +ℤ w.q; d = u.d +ℤ w.d }
+
+-- the numbers of all the points added up, which gives a point among them
+unfoldable pub sum_of : List Point → Point
+sum_of [] = record { p = pos 0; q = pos 0; d = pos 0 }
+sum_of (c ∷ cs) = plus c (sum_of cs)
 
 -- both forms are 0 at the point c
 pub record IsCrossing (f g : LinearForm) (c : Point) : Type 0 where
