@@ -7,7 +7,7 @@ unfoldable pub meet : LinearForm → LinearForm → Point
 meet f g = record {
   p = f.b *ℤ g.c -ℤ f.c *ℤ g.b;
   q = f.c *ℤ g.a -ℤ f.a *ℤ g.c;
-  d = f.a *ℤ g.b -ℤ f.b *ℤ g.a
+  d = f.a *ℤ g.b -ℤ f.b *ℤ g.a;
 }
 
 -- the form of the line from u to w, which is above 0 to the left of it
@@ -15,7 +15,7 @@ unfoldable pub edge_form : Point → Point → LinearForm
 edge_form u w = record {
   a = u.q *ℤ w.d -ℤ u.d *ℤ w.q;
   b = u.d *ℤ w.p -ℤ u.p *ℤ w.d;
-  c = u.p *ℤ w.q -ℤ u.q *ℤ w.p
+  c = u.p *ℤ w.q -ℤ u.q *ℤ w.p;
 }
 
 -- the numbers of u and w added up, which gives a point between the two
