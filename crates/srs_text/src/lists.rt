@@ -113,6 +113,13 @@ impl Nums {
         &self.items[i as usize]
     }
 
+    /// All the numbers.
+    pub fn as_slice(&self) -> &[i64]
+        ensures { result.now ≡ self.now }
+    {
+        self.items.as_slice()
+    }
+
     /// Whether the number is one of them.
     pub fn contains(&self, item: i64) -> bool
         ensures { IsTrue result ↔ Contains self.now item }
