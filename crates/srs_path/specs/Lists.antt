@@ -21,7 +21,7 @@ pub record MakesRanks (pairs : List V2) (ranks : List ℤ) : Type 0 where
   pub short : length pairs ≤ 16384
   pub ascending : AllPairs Precedes pairs
   pub narrow : All IsNarrow pairs
-  pub ranks : All (λ z. (pos 0 ≤ℤ z) × (z ≤ℤ pos 16384)) ranks
+  pub within : All (λ z. (pos 0 ≤ℤ z) × (z ≤ℤ pos 16384)) ranks
 
 -- each pair with its rank
 abbrev pub ranked : List V2 → List ℤ → List (V2 × ℕ)

@@ -1,5 +1,8 @@
 // Cycles by the first entries of their pairs.
-ghost use Rattle.std.specs.Prelude.{◌≡◌, ◌<◌, length, slice_get, Some, IfSome, IfNone, IfOk, IsSome};
+ghost use Rattle.std.specs.Prelude.{◌≡◌, ◌≢◌, ◌↔◌, ◌<◌, ◌^◌, length, slice_get, Some, All, IsTrue, IfSome, IfNone, IfOk, IsSome};
+ghost use Rattle.srs_num.specs.Points.{IsWithin};
+ghost use Rattle.srs_map.specs.Step.{pair, origin};
+ghost use Rattle.srs_path.specs.Cutout.{entry_at};
 ghost use Rattle.srs_path.specs.Lists.{IsCycle};
 
 use srs_num::NoMemory;
@@ -24,6 +27,8 @@ impl Model for Cycle {
 
     ghost invariant = { λ c. IsCycle c.entries };
 }
+
+const MOST: u64 = 16384;
 
 impl Cycle {
     /// `None` exactly where the numbers are no such list. It takes no memory.
@@ -57,6 +62,57 @@ impl Cycle {
     pub fn copy(&self, alloc: Global) -> Result<Cycle, NoMemory>
         ensures { IfOk result (λ c. c ≡ self.now) }
     {
-        todo!()
+        Ok(Cycle {
+            entries: copy_of(alloc, &self.entries)?,
+        })
     }
+}
+
+fn copy_of(alloc: Global, entries: &Nums) -> Result<Nums, NoMemory>
+    ensures { IfOk result (λ copy. copy ≡ entries.now) }
+{
+    let mut copy = Nums::new(alloc);
+    for entry in entries.as_slice() {
+        if copy.push(*entry).is_err() {
+            return Err(NoMemory);
+        }
+    }
+    Ok(copy)
+}
+
+// Whether the numbers are the first entries of a cycle.
+fn is_cycle(entries: &Nums) -> bool
+    ensures { IsTrue result ↔ IsCycle entries.now }
+{
+    let count = entries.len();
+    if count == 0 || count > MOST {
+        return false;
+    }
+    if !all_narrow(entries) {
+        return false;
+    }
+    starts_nonzero(entries)
+}
+
+fn all_narrow(entries: &Nums) -> bool
+    ensures { IsTrue result ↔ All (IsWithin (2 ^ 37)) entries.now }
+{
+    entries.as_slice().iter().all(|z| is_narrow(*z))
+}
+
+fn is_narrow(z: i64) -> bool
+    ensures { IsTrue result ↔ IsWithin (2 ^ 37) z }
+{
+    -(1 << 37) <= z && z <= 1 << 37
+}
+
+// Whether the first entry or the one after it, counted round, isn't 0.
+fn starts_nonzero(entries: &Nums) -> bool
+    requires { 0 < length entries.now }
+    ensures { IsTrue result ↔ (pair (entry_at entries.now 0) (entry_at entries.now 1) ≢ origin) }
+{
+    if *entries.get(0) != 0 {
+        return true;
+    }
+    *entries.get(1 % entries.len()) != 0
 }
