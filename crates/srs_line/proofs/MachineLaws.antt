@@ -24,7 +24,7 @@ pub no_line : (rest line more : List ℕ) → HasNoLf rest → IsLineOf rest lin
 no_line rest line more h l = lf_stands line more (rw l.whole at h)
 
 opened : (x : List ℕ) (xs : List (List ℕ)) (rest : List ℕ) → joined (x ∷ xs) ++ rest ≡ x ++ 10 ∷ (joined xs ++ rest)
-opened x xs rest = rw (append_assoc, append_assoc) refl
+opened x xs rest = simp append_assoc
 
 module _ {S : Type 0} (Steps : S → List ℕ → S → Type 0)
     (det : (s t u : S) (line : List ℕ) → Steps s line t → Steps s line u → t ≡ u) where
