@@ -4,3 +4,5 @@ pub mod Ranges
 pub mod Floors
 pub mod Combinations
 pub mod Identities
+pub mod Crossings
+pub mod Sums

@@ -38,7 +38,7 @@ dot_fits a b c p q d m n ha hb hc hp hq hd lt =
       second = fits_signed_from_abs w128 _ (below (m * n) (m * n) (unsigned_abs (b *ℤ q)) y (omega arith) lt);
       third = fits_signed_from_abs w128 _ (below (m * n) (m * n) (unsigned_abs (c *ℤ d)) z (omega arith) lt);
       two = fits_signed_from_abs w128 _ (below (m * n) (m * n + m * n) (unsigned_abs (a *ℤ p +ℤ b *ℤ q)) xy (omega arith) lt);
-      all = fits_signed_from_abs w128 _ (below (m * n) (m * n + m * n + m * n) (unsigned_abs (a *ℤ p +ℤ b *ℤ q +ℤ c *ℤ d)) xyz (omega arith) lt)
+      all = fits_signed_from_abs w128 _ (below (m * n) (m * n + m * n + m * n) (unsigned_abs (a *ℤ p +ℤ b *ℤ q +ℤ c *ℤ d)) xyz (omega arith) lt);
     }
   where
     below : (k j x : ℕ) → x ≤ j → j ≤ 3 * k → 3 * k < 2 ^ 127 → x < 2 ^ hbits w128
@@ -82,7 +82,7 @@ minor_fits a b c d ha hb hc hd =
       first = small_fits w128 (a *ℤ d) _ x (lit< tt);
       second = small_fits w128 (b *ℤ c) _ y (lit< tt);
       all = small_fits w128 (a *ℤ d -ℤ b *ℤ c) _ xy (lit< tt);
-      size = xy
+      size = xy;
     }
 
 pub within_turned : (m : ℕ) (p : ℤ) → IsWithin m p → IsWithin m (pos 0 -ℤ p)

@@ -95,8 +95,9 @@ put_factor-is : (xs : List ℤ) (k : ℕ) (js : List ℕ) → product_of xs (put
 put_factor-is xs k [] = refl
 put_factor-is xs k (j ∷ js) =
     elim (ltb j k) as (λ t. product_of xs (elim t [ true ↦ j ∷ put_factor k js | false ↦ k ∷ j ∷ js ]) ≡ pick xs k *ℤ (pick xs j *ℤ product_of xs js)) [
-        true ↦ ap (λ x. pick xs j *ℤ x) (put_factor-is xs k js) ∙ swap_factors (pick xs j) (pick xs k) (product_of xs js)
-      | false ↦ refl ]
+      | true ↦ ap (λ x. pick xs j *ℤ x) (put_factor-is xs k js) ∙ swap_factors (pick xs j) (pick xs k) (product_of xs js)
+      | false ↦ refl
+    ]
   where
     swap_factors : (a b c : ℤ) → a *ℤ (b *ℤ c) ≡ b *ℤ (a *ℤ c)
     swap_factors a b c = sym (mul_assoc a b c) ∙ ap (λ x. x *ℤ c) (mul_comm a b) ∙ mul_assoc b a c
@@ -118,12 +119,14 @@ put_term-is xs c m (t ∷ ts) =
     let p = product_of xs m in
     let goal : Bool → Type 0 = λ b. total xs (elim b [ true ↦ record { coef = c +ℤ t.coef; vars = m } ∷ ts | false ↦ t ∷ put_term c m ts ]) ≡ c *ℤ product_of xs m +ℤ (t.coef *ℤ product_of xs t.vars +ℤ total xs ts) in
     let by_test : (b : Bool) → same_list m t.vars ≡ b → goal b = λ b. elim b as (λ b. same_list m t.vars ≡ b → goal b) [
-        true ↦ λ e. joined p (product_of xs t.vars) (ap (product_of xs) (same_list-true m t.vars e)) t.coef (total xs ts)
-      | false ↦ λ e. put_off (t.coef *ℤ product_of xs t.vars) (total xs (put_term c m ts)) (c *ℤ p) (total xs ts) (put_term-is xs c m ts) ] in
+      | true ↦ λ e. joined p (product_of xs t.vars) (ap (product_of xs) (same_list-true m t.vars e)) t.coef (total xs ts)
+      | false ↦ λ e. put_off (t.coef *ℤ product_of xs t.vars) (total xs (put_term c m ts)) (c *ℤ p) (total xs ts) (put_term-is xs c m ts)
+    ] in
     by_test (same_list m t.vars) refl
   where
     joined : (p q : ℤ) → p ≡ q → (d r : ℤ) → (c +ℤ d) *ℤ p +ℤ r ≡ c *ℤ p +ℤ (d *ℤ q +ℤ r)
     joined p q e d r = ap (λ x. x +ℤ r) (mul_comm (c +ℤ d) p ∙ mul_add p c d ∙ ap (λ x. x +ℤ p *ℤ d) (mul_comm p c) ∙ ap (λ x. c *ℤ p +ℤ x) (mul_comm p d ∙ ap (λ x. d *ℤ x) e)) ∙ add_assoc (c *ℤ p) (d *ℤ q) r
+
     put_off : (a b s r : ℤ) → b ≡ s +ℤ r → a +ℤ b ≡ s +ℤ (a +ℤ r)
     put_off a b s r e = omega (arith, linear)
 
@@ -144,6 +147,7 @@ put_scaled-is xs c m (t ∷ ts) us =
     regroup : (c p d q : ℤ) → (c *ℤ d) *ℤ (p *ℤ q) ≡ (c *ℤ p) *ℤ (d *ℤ q)
     regroup c p d q =
         mul_assoc c d (p *ℤ q) ∙ ap (λ x. c *ℤ x) (sym (mul_assoc d p q) ∙ ap (λ x. x *ℤ q) (mul_comm d p) ∙ mul_assoc p d q) ∙ sym (mul_assoc c p (d *ℤ q))
+
     one_more : (c p d q r s : ℤ) (x y : ℤ) → x ≡ p *ℤ q → y ≡ (c *ℤ p) *ℤ r +ℤ s → (c *ℤ d) *ℤ x +ℤ y ≡ (c *ℤ p) *ℤ (d *ℤ q +ℤ r) +ℤ s
     one_more c p d q r s x y e f =
         let g : (c *ℤ d) *ℤ x ≡ (c *ℤ p) *ℤ (d *ℤ q) = ap (λ z. (c *ℤ d) *ℤ z) e ∙ regroup c p d q in
@@ -186,7 +190,6 @@ terms-is xs (e ⊗ f) = put_products-is xs (terms e) (terms f) [] ∙ both (tota
   where
     both : (a b c d : ℤ) → a ≡ c → b ≡ d → a *ℤ b +ℤ pos 0 ≡ c *ℤ d
     both a b c d e f = let g : a *ℤ b ≡ c *ℤ d = cc in omega (arith, linear)
-
 terms-is xs (minus e) =
     put_scaled-is xs (negsuc 0) [] (terms e) [] ∙ turned (total xs (terms e)) (evaluate xs e) (terms-is xs e)
   where
@@ -205,8 +208,9 @@ nought xs [] h = refl
 nought xs (t ∷ ts) h =
     let goal = total xs (t ∷ ts) ≡ pos 0 in
     let by_test : (b : Bool) → is_nought t.coef ≡ b → T (elim b [ true ↦ all_nought ts | false ↦ false ]) → goal = λ b. elim b as (λ b. is_nought t.coef ≡ b → T (elim b [ true ↦ all_nought ts | false ↦ false ]) → goal) [
-        true ↦ λ e h. gone t.coef (product_of xs t.vars) (total xs ts) (is_nought-is t.coef e) (nought xs ts h)
-      | false ↦ λ e h. absurd h ] in
+      | true ↦ λ e h. gone t.coef (product_of xs t.vars) (total xs ts) (is_nought-is t.coef e) (nought xs ts h)
+      | false ↦ λ e h. absurd h
+    ] in
     by_test (is_nought t.coef) refl h
   where
     gone : (c p r : ℤ) → c ≡ pos 0 → r ≡ pos 0 → c *ℤ p +ℤ r ≡ pos 0

@@ -3,6 +3,7 @@
 
 mod division;
 mod forms;
+mod lines;
 mod lists;
 mod pairs;
 mod points;
@@ -10,6 +11,7 @@ mod steps;
 
 pub use division::{ceil_div, floor_div};
 pub use forms::{Form, product};
+pub use lines::{cross, crossing_of, minor, sum, turn};
 pub use lists::{Forms, Pairs};
 pub use pairs::{NoMemory, V2};
 pub use points::{Corner, Pt};

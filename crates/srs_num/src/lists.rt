@@ -43,6 +43,13 @@ impl Pairs {
         &self.items[i as usize]
     }
 
+    /// All the pairs.
+    pub fn as_slice(&self) -> &[V2]
+        ensures { result.now ≡ self.now }
+    {
+        self.items.as_slice()
+    }
+
     /// Appends the pair. An `Err` is want of memory: it gives the pair back and changes nothing.
     pub fn push(&mut self, item: V2) -> Result<(), V2>
         ensures ok { OnOk result (self.new ≡ self.old ++ item ∷ []) }
@@ -92,6 +99,13 @@ impl Forms {
         ensures { slice_get self.now i ≡ Some result.now }
     {
         &self.items[i as usize]
+    }
+
+    /// All the forms.
+    pub fn as_slice(&self) -> &[Form]
+        ensures { result.now ≡ self.now }
+    {
+        self.items.as_slice()
     }
 
     /// Appends the form. An `Err` is want of memory: it gives the form back and changes nothing.

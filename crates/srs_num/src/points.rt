@@ -1,6 +1,7 @@
 // Points with rational coordinates: those that are asked about, and the corners of cells.
 ghost use Rattle.std.specs.Prelude.{◌≡◌, ◌-◌, ◌^◌, ◌↔◌, pos, neg_ℤ, ◌*ℤ◌, ◌≤ℤ◌, IsTrue, IfSome, IfNone};
 ghost use Rattle.srs_num.specs.Points.{IsPtSized, IsPointWithin, IsNear, IsWithin};
+ghost use Rattle.srs_num.specs.Lines.{plus};
 
 use std::marker::Model;
 
@@ -25,6 +26,7 @@ impl Model for Pt {
 }
 
 const MOST: i64 = 1 << 42;
+
 const DEEPEST: i64 = 1 << 40;
 
 impl Pt {
@@ -88,6 +90,26 @@ impl Model for Corner {
 }
 
 impl Corner {
+    // The corner with these numbers.
+    pub(crate) fn new(p: i128, q: i128, d: i128) -> Corner
+        requires { IsPointWithin (2 ^ 84 - 1) (record { p = p; q = q; d = d }) }
+        ensures { result ≡ record { p = p; q = q; d = d } }
+    {
+        Corner { p, q, d }
+    }
+
+    /// The numbers of the two added up, which gives a point between them.
+    pub fn plus(&self, other: &Corner) -> Corner
+        requires { IsPointWithin (2 ^ 84 - 1) (plus self.now other.now) }
+        ensures { result ≡ plus self.now other.now }
+    {
+        Corner {
+            p: self.p + other.p,
+            q: self.q + other.q,
+            d: self.d + other.d,
+        }
+    }
+
     /// The three numbers.
     pub fn parts(&self) -> (i128, i128, i128)
         ensures p { result.0 ≡ self.now.p }

@@ -15,5 +15,6 @@ returns-then-is_near c =
     let first = simp to_z-of_z at (c.if-is_near.ensures.0 refl) in
     let second = simp to_z-of_z at c.is_near-then-is_near.ensures in
     rw (← c.self.view_is) (
-      (λ yes. record { p_low = first.0; p_high = first.1; q_low = (second.0 yes).0; q_high = (second.0 yes).1 })
-      , (λ near. second.1 (near.q_low, near.q_high)))
+      (λ yes. record { p_low = first.0; p_high = first.1; q_low = (second.0 yes).0; q_high = (second.0 yes).1 }),
+      (λ near. second.1 (near.q_low, near.q_high)),
+    )

@@ -1,0 +1,6 @@
+pub mod Clip
+pub mod Section
+pub mod Extremes
+pub mod Keeping
+pub mod Boxed
+pub mod Clipped

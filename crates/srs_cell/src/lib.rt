@@ -1,0 +1,2 @@
+//! Cells: regions that have a point, with their corners.
+#![tactic(auto)]

@@ -1,0 +1,6 @@
+pub mod MachineLemmas
+pub mod MachineLaws
+pub mod FieldLemmas
+pub mod TokenLemmas
+pub mod LineTexts
+pub mod FieldLaws

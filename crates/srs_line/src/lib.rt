@@ -1,0 +1,14 @@
+//! Texts that are read line by line, and the fields of a line.
+#![tactic(auto)]
+
+mod laws;
+mod machine;
+mod shape;
+mod slip;
+mod tokens;
+
+pub use laws::{never_both, one_slip, read_once};
+pub use machine::{LineMachine, read_lines};
+pub use shape::{count_of, fields, has_word, one, one_line, three};
+pub use slip::{FileErr, LineErr, Slip};
+pub use tokens::Tokens;

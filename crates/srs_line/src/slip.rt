@@ -1,0 +1,42 @@
+// What is wrong with a text.
+
+/// What is wrong with a line.
+#[derive(Clone, Copy, Debug, PartialEq, Eq)]
+pub enum Slip {
+    /// A line is wanted, and no LF is left.
+    Missing,
+    /// Another word, or another number of tokens.
+    Word,
+    /// A field is no number in its one spelling, or beyond 64 bits.
+    Number,
+    /// A version that isn't known.
+    Version,
+    /// A count out of its range, or that isn't the number of what it counts.
+    Count,
+    /// A number out of its range.
+    Range,
+    /// A number that isn't greater than the one before.
+    Order,
+    /// A vertex at which the polygon turns the wrong way.
+    Turn,
+    /// A byte follows the last line.
+    Tail,
+}
+
+/// Why a text was refused.
+#[derive(Clone, Copy, Debug, PartialEq, Eq)]
+pub enum FileErr {
+    /// The line of the first slip, counted from 1, and the slip.
+    At(u32, Slip),
+    /// Want of memory.
+    NoMemory,
+}
+
+/// Why a line was refused.
+#[derive(Clone, Copy, Debug, PartialEq, Eq)]
+pub enum LineErr {
+    /// The slip, and how many lines before the line at hand it stands: 0 for that very line.
+    Slip(Slip, u64),
+    /// Want of memory.
+    NoMemory,
+}

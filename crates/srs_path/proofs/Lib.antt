@@ -1,0 +1,6 @@
+pub mod Order
+pub mod Ranked
+pub mod WitnessLemmas
+pub mod ChosenOnce
+pub mod Positive
+pub mod OutcomeSound

@@ -1,0 +1,9 @@
+pub mod Witnesses
+pub mod Core
+pub mod ChosenCycle
+pub mod Cutout
+pub mod GridLine
+pub mod Refinement
+pub mod Soundness
+pub mod Lists
+pub mod Views

@@ -1,0 +1,28 @@
+-- What the lists of ranks and the cycles keep.
+use Rattle.std.specs.Prelude.{◌≡◌, ◌≢◌, ℕ, ◌≤◌, ◌^◌, ℤ, pos, ◌≤ℤ◌, unsigned_abs, List, length, map, All, AllPairs}
+use Rattle.std.specs.List.{zip}
+use Rattle.srs_num.specs.declared.pairs.V2.{V2}
+use Rattle.srs_num.specs.Points.{IsWithin}
+use Rattle.srs_map.specs.Step.{pair, origin, IsNarrow}
+use Rattle.srs_path.specs.Core.{Precedes}
+use Rattle.srs_path.specs.Cutout.{entry_at}
+
+-- 1 to 16384 numbers within 2^37, of which the first two, counted round, aren't both 0
+pub record IsCycle (c : List ℤ) : Type 0 where
+  pub some : 1 ≤ length c
+  pub short : length c ≤ 16384
+  pub narrow : All (IsWithin (2 ^ 37)) c
+  pub not_zero : pair (entry_at c 0) (entry_at c 1) ≢ origin
+
+-- 1 to 16384 pairs, strictly ascending and with entries within 2^37, and as many ranks from 0 to 16384
+pub record MakesRanks (pairs : List V2) (ranks : List ℤ) : Type 0 where
+  pub same : length pairs ≡ length ranks
+  pub some : 1 ≤ length pairs
+  pub short : length pairs ≤ 16384
+  pub ascending : AllPairs Precedes pairs
+  pub narrow : All IsNarrow pairs
+  pub within : All (λ z. (pos 0 ≤ℤ z) × (z ≤ℤ pos 16384)) ranks
+
+-- each pair with its rank
+abbrev pub ranked : List V2 → List ℤ → List (V2 × ℕ)
+ranked pairs ranks = zip pairs (map unsigned_abs ranks)

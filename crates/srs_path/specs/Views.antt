@@ -1,0 +1,25 @@
+-- What limits and findings are seen as.
+use Rattle.std.specs.Prelude.{ℕ, ◌*◌, ◌≤◌, ◌^◌}
+use Rattle.srs_plane.specs.Regions.{Area}
+use Rattle.srs_path.specs.declared.outcomes.Outcome.{Outcome}
+
+-- the greatest depth, the most cells, and the most witnesses of a cell
+pub record Budget : Type 0 where
+  pub depth : ℕ
+  pub cells : ℕ
+  pub wits : ℕ
+
+-- depth 0 to 48, cells 1 to 65536, witnesses 1 to 16384, and witnesses times cells at most 2^22
+pub record IsBudget (b : Budget) : Type 0 where
+  pub depth : b.depth ≤ 48
+  pub some_cell : 1 ≤ b.cells
+  pub cells : b.cells ≤ 65536
+  pub some_wit : 1 ≤ b.wits
+  pub wits : b.wits ≤ 16384
+  pub product : b.wits * b.cells ≤ 2 ^ 22
+
+-- an outcome of a region, for this many witnesses
+pub record Found : Type 0 where
+  pub region : Area
+  pub w : ℕ
+  pub outcome : Outcome

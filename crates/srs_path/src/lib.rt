@@ -1,0 +1,14 @@
+//! Outcomes of regions: what is claimed, by which definitions, and the findings that are sound by their type.
+#![tactic(auto)]
+
+mod cycles;
+mod findings;
+mod limits;
+mod outcomes;
+mod ranks;
+
+pub use cycles::Cycle;
+pub use findings::Finding;
+pub use limits::{Last, Limits};
+pub use outcomes::{Cause, Outcome, Why};
+pub use ranks::Ranks;

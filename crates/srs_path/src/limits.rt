@@ -1,0 +1,68 @@
+// The limits of a run.
+ghost use Rattle.std.specs.Prelude.{◌≡◌, IfSome, IfNone};
+ghost use Rattle.srs_path.specs.Views.{Budget, IsBudget};
+
+use std::marker::Model;
+
+/// Which limit is spent.
+#[derive(Clone, Copy, Debug, PartialEq, Eq, Drop)]
+pub enum Last {
+    Depth,
+    Cells,
+}
+
+/// The greatest depth of a cell (0 to 48), the most cells (1 to 65536), and the most witnesses of a cell (1 to 16384);
+/// the product of the last two is at most 2^22.
+#[derive(Clone, Copy, Debug, PartialEq, Eq, Drop)]
+pub struct Limits {
+    depth: u32,
+    cells: u32,
+    wits: u32,
+}
+
+impl Model for Limits {
+    ghost use Rattle.srs_path.specs.Views.{Budget, IsBudget};
+
+    ghost Value = { Budget };
+
+    ghost view = { λ l. record { depth = l.depth; cells = l.cells; wits = l.wits } };
+
+    ghost invariant = { λ l. IsBudget (record { depth = l.depth; cells = l.cells; wits = l.wits }) };
+
+    ghost inverse = { λ v. record { depth = v.depth; cells = v.cells; wits = v.wits } };
+}
+
+impl Limits {
+    /// `None` exactly where one of the ranges is broken.
+    pub fn new(depth: u32, cells: u32, wits: u32) -> Option<Limits>
+        ensures some { IfSome result (λ l. l ≡ record { depth = depth; cells = cells; wits = wits }) }
+        ensures none { IfNone result (IsBudget (record { depth = depth; cells = cells; wits = wits }) → ⊥) }
+    {
+        let in_range = depth <= 48 && cells >= 1 && cells <= 65536 && wits >= 1 && wits <= 16384;
+        if !in_range || wits as u64 * cells as u64 > 1 << 22 {
+            return None;
+        }
+        Some(Limits { depth, cells, wits })
+    }
+
+    pub fn depth(&self) -> u32
+        ensures depth { result ≡ self.now.depth }
+        ensures budget { IsBudget self.now }
+    {
+        self.depth
+    }
+
+    pub fn cells(&self) -> u32
+        ensures cells { result ≡ self.now.cells }
+        ensures budget { IsBudget self.now }
+    {
+        self.cells
+    }
+
+    pub fn wits(&self) -> u32
+        ensures wits { result ≡ self.now.wits }
+        ensures budget { IsBudget self.now }
+    {
+        self.wits
+    }
+}

@@ -1,0 +1,118 @@
+// The ranks of a cell's witnesses.
+ghost use Rattle.std.specs.Prelude.{◌≡◌, ◌↔◌, ◌<◌, pos, ◌≤ℤ◌, length, slice_get, Some, All, AllPairs, IsTrue, IfSome, IfNone, IsSome};
+ghost use Rattle.srs_map.specs.Step.{IsNarrow};
+ghost use Rattle.srs_path.specs.Core.{Precedes};
+ghost use Rattle.srs_path.specs.Lists.{MakesRanks, ranked};
+
+use srs_num::{Pairs, V2};
+use srs_text::Nums;
+use std::marker::Model;
+
+/// Pairs with their ranks: 1 to 16384 of them, pairs strictly ascending with entries within 2^37, ranks 0 to 16384.
+#[derive(Drop)]
+pub struct Ranks {
+    pairs: Pairs,
+    ranks: Nums,
+}
+
+impl Model for Ranks {
+    ghost use Rattle.std.specs.Prelude.{List, ℕ};
+    ghost use Rattle.srs_num.specs.declared.pairs.V2.{V2};
+    ghost use Rattle.srs_path.specs.Lists.{MakesRanks, ranked};
+
+    ghost Value = { List (V2 × ℕ) };
+
+    ghost view = { λ r. ranked r.pairs r.ranks };
+
+    ghost invariant = { λ r. MakesRanks r.pairs r.ranks };
+}
+
+const MOST: u64 = 16384;
+
+impl Ranks {
+    /// `None` exactly where the two lists make no such list. It takes no memory.
+    pub fn of(pairs: Pairs, ranks: Nums) -> Option<Ranks>
+        ensures some { IfSome result (λ r. r ≡ ranked pairs ranks) }
+        ensures made { IsSome result → MakesRanks pairs ranks }
+        ensures none { IfNone result (MakesRanks pairs ranks → ⊥) }
+    {
+        if makes_ranks(&pairs, &ranks) {
+            Some(Ranks { pairs, ranks })
+        } else {
+            None
+        }
+    }
+
+    pub fn len(&self) -> u32
+        ensures { result ≡ length self.now }
+    {
+        self.pairs.len() as u32
+    }
+
+    /// The pair at the place `i`, and its rank.
+    pub fn entry(&self, i: u32) -> (V2, u32)
+        requires { i < length self.now }
+        ensures { slice_get self.now i ≡ Some result }
+    {
+        (*self.pairs.get(i as u64), *self.ranks.get(i as u64) as u32)
+    }
+}
+
+fn makes_ranks(pairs: &Pairs, ranks: &Nums) -> bool
+    ensures { IsTrue result ↔ MakesRanks pairs.now ranks.now }
+{
+    let count = pairs.len();
+    if count != ranks.len() || count == 0 || count > MOST {
+        return false;
+    }
+    if !all_narrow(pairs) {
+        return false;
+    }
+    if !ascends(pairs.as_slice()) {
+        return false;
+    }
+    all_ranks(ranks)
+}
+
+fn all_narrow(pairs: &Pairs) -> bool
+    ensures { IsTrue result ↔ All IsNarrow pairs.now }
+{
+    pairs.as_slice().iter().all(is_narrow)
+}
+
+fn is_narrow(w: &V2) -> bool
+    ensures { IsTrue result ↔ IsNarrow w.now }
+{
+    const MOST: i64 = 1 << 37;
+    -MOST <= w.a && w.a <= MOST && -MOST <= w.b && w.b <= MOST
+}
+
+// Whether each pair stands before the next one.
+fn ascends(pairs: &[V2]) -> bool
+    ensures { IsTrue result ↔ AllPairs Precedes pairs.now }
+{
+    for i in 1..pairs.len() {
+        if !precedes(&pairs[i - 1], &pairs[i]) {
+            return false;
+        }
+    }
+    true
+}
+
+fn precedes(v: &V2, w: &V2) -> bool
+    ensures { IsTrue result ↔ Precedes v.now w.now }
+{
+    v.a < w.a || v.a == w.a && v.b < w.b
+}
+
+fn all_ranks(ranks: &Nums) -> bool
+    ensures { IsTrue result ↔ All (λ z. (pos 0 ≤ℤ z) × (z ≤ℤ pos 16384)) ranks.now }
+{
+    ranks.as_slice().iter().all(|z| is_rank(*z))
+}
+
+fn is_rank(z: i64) -> bool
+    ensures { IsTrue result ↔ ((pos 0 ≤ℤ z) × (z ≤ℤ pos 16384)) }
+{
+    0 <= z && z <= 16384
+}
