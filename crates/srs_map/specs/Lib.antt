@@ -1,4 +1,5 @@
 pub mod Step
 pub mod Finiteness
-pub mod Orbits
 pub mod Links
+pub mod Orbits
+pub mod Chase

@@ -14,6 +14,10 @@ origin = pair (pos 0) (pos 0)
 abbrev pub minus : V2 → V2
 minus z = pair (neg_ℤ z.a) (neg_ℤ z.b)
 
+-- the sum of two pairs
+abbrev pub plus : V2 → V2 → V2
+plus z w = pair (z.a +ℤ w.a) (z.b +ℤ w.b)
+
 -- the step T of the parameter (p / d, q / d): (a, b) goes to (b, -floor((p*a + q*b) / d))
 abbrev pub step_of : Point → V2 → V2
 step_of r z = pair z.b (neg_ℤ (floor_quotient (r.p *ℤ z.a +ℤ r.q *ℤ z.b) r.d))

@@ -4,6 +4,10 @@
 //! "Generalized radix representations and dynamical systems I" (2005).
 #![tactic(auto)]
 
+mod chase;
+pub mod laws;
 mod orbits;
+mod steps;
 
-pub use orbits::{OrbitEnd, step};
+pub use orbits::{OrbitEnd, orbit};
+pub use steps::step;

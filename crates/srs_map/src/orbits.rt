@@ -1,9 +1,12 @@
-// The step and the orbits.
-ghost use Rattle.std.specs.Prelude.{◌≡◌, ◌≤◌, ◌+ℤ◌, ◌*ℤ◌};
+// The orbits.
+ghost use Rattle.std.specs.Prelude.{◌≡◌, ◌≤◌};
 ghost use Rattle.srs_num.specs.Points.{IsNear};
-ghost use Rattle.srs_map.specs.Step.{step_of, IsNarrow};
+ghost use Rattle.srs_map.specs.Step.{IsNarrow};
+ghost use Rattle.srs_map.specs.Orbits.{IsOrbitEnd};
+ghost use Rattle.srs_map.specs.Chase.{IsMeeting};
 
-use srs_num::{Pt, V2, floor_div};
+use crate::chase::{Finish, Place, is_origin, period, race, start};
+use srs_num::{Pt, V2};
 
 /// How an orbit ended: at (0,0) after so many steps, past the bound of its entries after so many steps, at a pair
 /// that was met before (after how many steps, and how many more lead back to it), or without any of these.
@@ -15,24 +18,51 @@ pub enum OrbitEnd {
     Spent,
 }
 
-// p*a + q*b.
-fn weighed(p: i64, q: i64, z: V2) -> i128
-    requires { IsNarrow z }
-    ensures { result ≡ p *ℤ z.a +ℤ q *ℤ z.b }
-{
-    i128::from(p) * i128::from(z.a) + i128::from(q) * i128::from(z.b)
-}
-
-/// The step of the near parameter `r` at the pair `z`, whose entries are within 2^37.
-pub fn step(r: &Pt, z: V2) -> V2
+/// The first event of the first `n` steps from `z`: a pair (0,0), a pair with an entry beyond 2^37, or a pair that was
+/// met before. It takes no memory, and at most six steps for each of n: three in the race, two up to the start of the
+/// loop, and one round it.
+pub fn orbit(r: &Pt, z: V2, n: u32) -> OrbitEnd
     requires near { IsNear r.now }
     requires narrow { IsNarrow z }
-    ensures { result ≡ step_of r.now z }
+    requires few { n ≤ 100000 }
+    ensures { IsOrbitEnd r.now z n result }
 {
-    let (p, q, d) = r.parts();
-    let floor = floor_div(weighed(p, q, z), i128::from(d));
-    V2 {
-        a: z.b,
-        b: -(floor as i64),
+    if is_origin(z) {
+        return OrbitEnd::Zero(0);
+    }
+    match race(r, z, n) {
+        Finish::Origin(k) => {
+            if k <= n {
+                OrbitEnd::Zero(k)
+            } else {
+                OrbitEnd::Spent
+            }
+        }
+        Finish::Beyond(k) => {
+            if k <= n {
+                OrbitEnd::Wide(k)
+            } else {
+                OrbitEnd::Spent
+            }
+        }
+        Finish::Meeting(meeting) => looped(r, z, n, meeting),
+        Finish::Apart => OrbitEnd::Spent,
+    }
+}
+
+// The end of an orbit of plain pairs on which the runners met.
+fn looped(r: &Pt, z: V2, n: u32, meeting: Place) -> OrbitEnd
+    requires near { IsNear r.now }
+    requires met { IsMeeting r.now z meeting }
+    requires few { n ≤ 100000 }
+    requires within { meeting.steps ≤ n }
+    ensures { IsOrbitEnd r.now z n result }
+{
+    let first = start(r, z, meeting);
+    let length = period(r, first.pair, meeting.steps);
+    if first.steps + length <= n {
+        OrbitEnd::Loop(first.steps, length)
+    } else {
+        OrbitEnd::Spent
     }
 }

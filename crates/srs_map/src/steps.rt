@@ -1,0 +1,29 @@
+// The step.
+ghost use Rattle.std.specs.Prelude.{◌≡◌, ◌+ℤ◌, ◌*ℤ◌};
+ghost use Rattle.srs_num.specs.Points.{IsNear};
+ghost use Rattle.srs_map.specs.Step.{step_of, IsNarrow};
+
+use srs_num::{Pt, V2, floor_div};
+
+/// The step of the parameter `r` at the pair `z`, which takes `(a, b)` to `(b, -floor((p*a + q*b) / d))`. It is given for
+/// a parameter of two coordinates within 4, and entries within 2^37: then the new entry is within 2^40.
+pub fn step(r: &Pt, z: V2) -> V2
+    requires near { IsNear r.now }
+    requires narrow { IsNarrow z }
+    ensures { result ≡ step_of r.now z }
+{
+    let (p, q, d) = r.parts();
+    let floor = floor_div(weighed(p, q, z), i128::from(d));
+    V2 {
+        a: z.b,
+        b: -(floor as i64),
+    }
+}
+
+// p*a + q*b.
+fn weighed(p: i64, q: i64, z: V2) -> i128
+    requires { IsNarrow z }
+    ensures { result ≡ p *ℤ z.a +ℤ q *ℤ z.b }
+{
+    i128::from(p) * i128::from(z.a) + i128::from(q) * i128::from(z.b)
+}
