@@ -195,3 +195,15 @@ end_moved g hs h end c x is low up crossing sized s =
     let old : IsEndAt g hs c = rw is at s in
     let lower : value h (meet old.half g) <ℤ pos 0 = rw (← old.crossing) low in
     record { half = h; is_end = end_swap g hs old.half h old.is_end up lower; crossing = crossing; sized = sized }
+
+pub at_most_by : (a b : ℤ) → a ≡ b → a ≤ℤ pos 0 → b ≤ℤ pos 0
+at_most_by a b e h = omega (arith, linear)
+
+pub at_least_by : (a b : ℤ) → a ≡ b → pos 0 ≤ℤ a → pos 0 ≤ℤ b
+at_least_by a b e h = omega (arith, linear)
+
+pub below_by : (a b : ℤ) → a ≡ b → a <ℤ pos 0 → b <ℤ pos 0
+below_by a b e h = omega (arith, linear)
+
+pub above_by : (a b : ℤ) → a ≡ b → pos 0 <ℤ a → pos 0 <ℤ b
+above_by a b e h = omega (arith, linear)
