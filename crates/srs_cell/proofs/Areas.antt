@@ -33,7 +33,7 @@ all_there P xs i x h e a = let k = a i x h in rw (get_or_from_slice_get xs i x x
 pub all_done : {X : Type 0} (P : X → Type 0) (xs : List X) (i : ℕ) → length xs ≤ i → All P (take i xs) → All P xs
 all_done P xs i h a = rw (take_all i xs h) at a
 
-all_by_recursion : {X : Type 0} (P : X → Type 0) (xs : List X) → All P xs → AllByRecursion P xs
+pub all_by_recursion : {X : Type 0} (P : X → Type 0) (xs : List X) → All P xs → AllByRecursion P xs
 all_by_recursion P [] a = tt
 all_by_recursion P (x ∷ xs) a = (All-head P x xs a, all_by_recursion P xs (All-tail P x xs a))
 

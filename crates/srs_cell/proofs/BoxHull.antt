@@ -43,6 +43,29 @@ near_in_box z n =
     high : (r a m : ℤ) → r ≡ m -ℤ a → a ≤ℤ m → pos 0 ≤ℤ r
     high r a m e h = omega (arith, linear)
 
+-- and a point in the box is near
+pub near_by_box : (z : Point) → All (λ h. pos 0 ≤ℤ value h z) box → IsNear z
+near_by_box z a =
+    let P : LinearForm → Type 0 = λ h. pos 0 ≤ℤ value h z in
+    let r = side (pos 1) (pos 0) in
+    let t = side (pos 0) (pos 1) in
+    let l = side (negsuc 0) (pos 0) in
+    let b = side (pos 0) (negsuc 0) in
+    let a1 = All-tail P r (t ∷ l ∷ b ∷ []) a in
+    let a2 = All-tail P t (l ∷ b ∷ []) a1 in
+    let a3 = All-tail P l (b ∷ []) a2 in
+    record {
+      p_low = low _ _ _ (value-right z) (All-head P r (t ∷ l ∷ b ∷ []) a);
+      p_high = high _ _ _ (value-left z) (All-head P l (b ∷ []) a2);
+      q_low = low _ _ _ (value-top z) (All-head P t (l ∷ b ∷ []) a1);
+      q_high = high _ _ _ (value-bottom z) (All-head P b [] a3)
+    }
+  where
+    low : (r a m : ℤ) → r ≡ a +ℤ m → pos 0 ≤ℤ r → neg_ℤ m ≤ℤ a
+    low r a m e h = omega (arith, linear)
+    high : (r a m : ℤ) → r ≡ m -ℤ a → pos 0 ≤ℤ r → a ≤ℤ m
+    high r a m e h = omega (arith, linear)
+
 -- the four corners of the box
 pub record AreBoxCorners (w x y z : Point) : Type 0 where
   pub low_left : w ≡ meet (side (pos 1) (pos 0)) (side (pos 0) (pos 1))
@@ -70,14 +93,14 @@ unfolding meet side
 corner-high_left = refl
 
 -- a form that is at least 0 at the four corners is at least 0 at each point of the box, which lies among them by its distances to the sides
-corners_speak : (f : LinearForm) (z : Point) →
+distances_weigh : (f : LinearForm) (z : Point) →
     (pos 64 *ℤ z.d) *ℤ value f z
     ≡ ((pos 4 *ℤ z.d -ℤ z.p) *ℤ (pos 4 *ℤ z.d -ℤ z.q)) *ℤ value f (at (negsuc 3) (negsuc 3))
     +ℤ ((z.p +ℤ pos 4 *ℤ z.d) *ℤ (pos 4 *ℤ z.d -ℤ z.q)) *ℤ value f (at (pos 4) (negsuc 3))
     +ℤ ((z.p +ℤ pos 4 *ℤ z.d) *ℤ (z.q +ℤ pos 4 *ℤ z.d)) *ℤ value f (at (pos 4) (pos 4))
     +ℤ ((pos 4 *ℤ z.d -ℤ z.p) *ℤ (z.q +ℤ pos 4 *ℤ z.d)) *ℤ value f (at (negsuc 3) (pos 4))
 unfolding value
-corners_speak f z =
+distances_weigh f z =
     let A = v 0 in let B = v 1 in let C = v 2 in let P = v 3 in let Q = v 4 in let D = v 5 in
     let F = λ (p q : Expr). A ⊗ p ⊕ B ⊗ q ⊕ C ⊗ lit (pos 1) in
     let M = lit (pos 4) ⊗ D in
@@ -118,7 +141,7 @@ box_hull w x y z k =
         let left = by _ _ (sym (value-left u)) (All-head Q l (b ∷ []) b2) in
         let bottom = by _ _ (sym (value-bottom u)) (All-head Q b [] b3) in
         nonneg_from (pos 64 *ℤ u.d) (value f u) (mul_pos (pos 64) u.d (omega (arith, ints)) u_in.deep)
-          (four _ _ _ _ _ (corners_speak f u)
+          (four _ _ _ _ _ (distances_weigh f u)
             (mul_nonneg _ _ (mul_nonneg _ _ left bottom) (All-head P ll (lr ∷ hr ∷ hl ∷ []) above))
             (mul_nonneg _ _ (mul_nonneg _ _ right bottom) (All-head P lr (hr ∷ hl ∷ []) a1))
             (mul_nonneg _ _ (mul_nonneg _ _ right top) (All-head P hr (hl ∷ []) a2))

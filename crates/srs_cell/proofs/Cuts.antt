@@ -6,19 +6,10 @@ use Rattle.srs_num.specs.Lines.{meet}
 use Rattle.srs_num.proofs.Linear.{linear}
 use Rattle.srs_cell.specs.Hull.{IsInHalves, IsAbove, IsBelow, IsHull}
 use Rattle.srs_cell.specs.Cutting.{IsEnd, IsEndAt, IsKept, IsPart}
-use Rattle.srs_cell.proofs.Section.{clip_is_hull}
+use Rattle.srs_cell.proofs.Section.{in_more, in_front, in_last, clip_is_hull}
+use Rattle.srs_cell.proofs.Signs.{both_signs}
 use Rattle.srs_cell.proofs.Extremes.{all_below}
 use Rattle.srs_cell.proofs.Boxed.{IsBoxed, boxed_end, boxed_end_opposite}
-
--- a point of the halves and one more
-pub in_more : (hs : List LinearForm) (g : LinearForm) (z : Point) → IsInHalves hs z → pos 0 ≤ℤ value g z → IsInHalves (hs ++ g ∷ []) z
-in_more hs g z i h = record { deep = i.deep; each = All-push (λ h. pos 0 ≤ℤ value h z) hs g i.each h }
-
-pub in_front : (hs : List LinearForm) (g : LinearForm) (z : Point) → IsInHalves (hs ++ g ∷ []) z → IsInHalves hs z
-in_front hs g z i = record { deep = i.deep; each = (All-pop (λ h. pos 0 ≤ℤ value h z) (hs ++ g ∷ []) hs (Some g) refl i.each).0 }
-
-pub in_last : (hs : List LinearForm) (g : LinearForm) (z : Point) → IsInHalves (hs ++ g ∷ []) z → pos 0 ≤ℤ value g z
-in_last hs g z i = (All-pop (λ h. pos 0 ≤ℤ value h z) (hs ++ g ∷ []) hs (Some g) refl i.each).1
 
 in_turned : (hs : List LinearForm) (g : LinearForm) (z : Point) → IsInHalves (g ∷ hs) z → IsInHalves (hs ++ g ∷ []) z
 in_turned hs g z i =
@@ -34,10 +25,7 @@ whole_left hs cs g hull up = record {
 
 -- no corner is kept
 pub nothing_left : (hs : List LinearForm) (cs : List Point) (g : LinearForm) → IsHull hs cs → IsBelow g cs → (z : Point) → IsInHalves (hs ++ g ∷ []) z → ⊥
-nothing_left hs cs g hull low z i = clash _ (in_last hs g z i) (all_below hs cs g hull low z (in_front hs g z i))
-  where
-    clash : (a : ℤ) → pos 0 ≤ℤ a → a <ℤ pos 0 → ⊥
-    clash a h k = omega (arith, linear)
+nothing_left hs cs g hull low z i = both_signs _ (in_last hs g z i) (all_below hs cs g hull low z (in_front hs g z i))
 
 reordered : (hs : List LinearForm) (g : LinearForm) (us : List Point) (x y : Point) → IsHull (g ∷ hs) (x ∷ y ∷ us) → IsHull (hs ++ g ∷ []) ((us ++ x ∷ []) ++ y ∷ [])
 reordered hs g us x y hull = record {

@@ -54,10 +54,3 @@ kept_skip g cs us c h k = record {
     sized = λ m a. k.sized m (front (IsPointWithin m) cs c a);
     fewer = let old = k.fewer in omega (arith, length-append k.below (c ∷ []), length-append cs (c ∷ []))
   }
-
-pub above_from : (a b : ℤ) → a ≡ b → pos 0 ≤ℤ a → pos 0 ≤ℤ b
-above_from a b e h = omega (arith, linear)
-
-pub below_from : (a b : ℤ) → a ≡ b → a <ℤ pos 0 → b <ℤ pos 0
-below_from a b e h = omega (arith, linear)
-

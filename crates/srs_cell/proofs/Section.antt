@@ -11,11 +11,14 @@ use Rattle.srs_num.proofs.Linear.{linear, mul_zero, mul_one, mul_neg, mul_comm, 
 use Rattle.srs_num.proofs.Identities.{value-meet_first, value-meet_second, cramer, along, value-depth, value-meet_depth, value-meet_turned, meet-d_turned, value-opposite, value-meet_parallel, value-meet_opposite, meet-d_opposite}
 use Rattle.srs_cell.proofs.Clip.{clip_whole, part_in_common}
 
--- a point of a longer list of halves
-in_front : (hs : List LinearForm) (h : LinearForm) (z : Point) → IsInHalves (hs ++ h ∷ []) z → IsInHalves hs z
+-- a point of the halves and one more
+pub in_more : (hs : List LinearForm) (h : LinearForm) (z : Point) → IsInHalves hs z → pos 0 ≤ℤ value h z → IsInHalves (hs ++ h ∷ []) z
+in_more hs h z i k = record { deep = i.deep; each = All-push (λ h. pos 0 ≤ℤ value h z) hs h i.each k }
+
+pub in_front : (hs : List LinearForm) (h : LinearForm) (z : Point) → IsInHalves (hs ++ h ∷ []) z → IsInHalves hs z
 in_front hs h z i = record { deep = i.deep; each = (All-pop (λ h. pos 0 ≤ℤ value h z) (hs ++ h ∷ []) hs (Some h) refl i.each).0 }
 
-in_last : (hs : List LinearForm) (h : LinearForm) (z : Point) → IsInHalves (hs ++ h ∷ []) z → pos 0 ≤ℤ value h z
+pub in_last : (hs : List LinearForm) (h : LinearForm) (z : Point) → IsInHalves (hs ++ h ∷ []) z → pos 0 ≤ℤ value h z
 in_last hs h z i = (All-pop (λ h. pos 0 ≤ℤ value h z) (hs ++ h ∷ []) hs (Some h) refl i.each).1
 
 -- the end so far stays
@@ -195,15 +198,3 @@ end_moved g hs h end c x is low up crossing sized s =
     let old : IsEndAt g hs c = rw is at s in
     let lower : value h (meet old.half g) <ℤ pos 0 = rw (← old.crossing) low in
     record { half = h; is_end = end_swap g hs old.half h old.is_end up lower; crossing = crossing; sized = sized }
-
-pub at_most_by : (a b : ℤ) → a ≡ b → a ≤ℤ pos 0 → b ≤ℤ pos 0
-at_most_by a b e h = omega (arith, linear)
-
-pub at_least_by : (a b : ℤ) → a ≡ b → pos 0 ≤ℤ a → pos 0 ≤ℤ b
-at_least_by a b e h = omega (arith, linear)
-
-pub below_by : (a b : ℤ) → a ≡ b → a <ℤ pos 0 → b <ℤ pos 0
-below_by a b e h = omega (arith, linear)
-
-pub above_by : (a b : ℤ) → a ≡ b → pos 0 <ℤ a → pos 0 <ℤ b
-above_by a b e h = omega (arith, linear)

@@ -1,6 +1,7 @@
 use Rattle.std.proofs.Common.{◌≡◌, ℤ, pos, ◌≤ℤ◌, ◌<ℤ◌, arith, refl}
 use Rattle.std.proofs.lemmas.Int.{ints}
-use Rattle.srs_cell.proofs.Section.{end_passed, end_kept, end_begun, end_moved, at_most_by, at_least_by, below_by, above_by}
+use Rattle.srs_cell.proofs.Section.{end_passed, end_kept, end_begun, end_moved}
+use Rattle.srs_cell.proofs.Signs.{at_most_by, at_least_by, below_by, above_by}
 use Rattle.srs_cell.proofs.ends.nearer.Goals as goal
 use Rattle.srs_cell.proofs.ends.nearer.Goals.{in-Some+else-at_corner-ge0, in_default}
 
