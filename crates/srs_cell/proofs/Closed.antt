@@ -37,12 +37,13 @@ mix_inside R z p n z_in p_in h =
     record {
       is_point = deep _ _ _ _ (mix-d n (pos 1) z p) (mul_nonneg n z.d h (from_one _ z_in.is_point)) (mul_one p.d) p_in.is_point;
       halves = all_by_recursion (λ h. IsInHalf h w) R (λ i d lt.
-        let k = get_or R i d in
-        asks_mix k.kind n (value k.form z) (value k.form p) (value k.form w) (value-mix n (pos 1) k.form z p) h (zs i d lt) (ps i d lt))
+          let k = get_or R i d in
+          asks_mix k.kind n (value k.form z) (value k.form p) (value k.form w) (value-mix n (pos 1) k.form z p) h (zs i d lt) (ps i d lt));
     }
   where
     from_one : (a : ℤ) → pos 1 ≤ℤ a → pos 0 ≤ℤ a
     from_one a h = omega (arith, linear)
+
     deep : (r a b c : ℤ) → r ≡ a +ℤ c → pos 0 ≤ℤ a → c ≡ b → pos 1 ≤ℤ b → pos 1 ≤ℤ r
     deep r a b c e h f k = omega (arith, linear)
 
@@ -52,12 +53,13 @@ closed_too R z p h z_in p_in good =
     let hp = good p p_in in
     let n = value h p +ℤ pos 1 in
     by_lt_z (value h z) (pos 0)
-      (λ low. absurd (both_signs _ (good (mix n z (pos 1) p) (mix_inside R z p n z_in p_in (one_more _ hp)))
-        (too_low (value h p) (value h z) _ (value-mix n (pos 1) h z p) low hp)))
-      (λ high. high)
+    (λ low. absurd (both_signs _ (good (mix n z (pos 1) p) (mix_inside R z p n z_in p_in (one_more _ hp)))
+    (too_low (value h p) (value h z) _ (value-mix n (pos 1) h z p) low hp)))
+    (λ high. high)
   where
     one_more : (a : ℤ) → pos 0 ≤ℤ a → pos 0 ≤ℤ (a +ℤ pos 1)
     one_more a h = omega (arith, linear)
+
     too_low : (a b r : ℤ) → r ≡ (a +ℤ pos 1) *ℤ b +ℤ pos 1 *ℤ a → b <ℤ pos 0 → pos 0 ≤ℤ a → r <ℤ pos 0
     too_low a b r e low h =
         let p = mul_nonneg (a +ℤ pos 1) (neg_ℤ b -ℤ pos 1) (omega (arith, linear)) (omega (arith, linear)) in
@@ -74,9 +76,9 @@ closed_near R z p z_in p_in near =
 -- the points of the closed halves of a cell are those of the box and the closed halves
 pub closed_boxed : (R : Area) (z : Point) → IsInClosed R z → IsNear z → IsInHalves (boxed R) z
 closed_boxed R z z_in near = record {
-    deep = deeper z.d z_in.is_point;
-    each = boxed_all (λ h. pos 0 ≤ℤ value h z) R (near_in_box z near) (All-from_recursion (λ h. pos 0 ≤ℤ value h.form z) R z_in.halves)
-  }
+  deep = deeper z.d z_in.is_point;
+  each = boxed_all (λ h. pos 0 ≤ℤ value h z) R (near_in_box z near) (All-from_recursion (λ h. pos 0 ≤ℤ value h.form z) R z_in.halves);
+}
   where
     deeper : (d : ℤ) → pos 1 ≤ℤ d → pos 0 <ℤ d
     deeper d h = omega (arith, linear)

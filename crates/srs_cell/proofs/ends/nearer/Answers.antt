@@ -20,7 +20,8 @@ returns c = λ hs s.
     let high : pos 0 <ℤ c.turn.result = omega (arith, ints) in
     let up = above_by _ _ c.turn.ensures high in
     elim c.match-end.branch [
-      in-Some+else-at_corner-ge0 w ↦
-        let low : w.at_corner.result <ℤ pos 0 = omega (arith, ints) in
-        end_moved _ hs _ _ _ _ w.in-Some.is (below_by _ _ w.at_corner.ensures low) up c.crossing_of.ensures.value c.crossing_of.ensures.sized s
-    | in_default w ↦ end_begun _ hs _ _ _ w.in_default.is up c.crossing_of.ensures.value c.crossing_of.ensures.sized s ]
+      | in-Some+else-at_corner-ge0 w ↦
+          let low : w.at_corner.result <ℤ pos 0 = omega (arith, ints) in
+          end_moved _ hs _ _ _ _ w.in-Some.is (below_by _ _ w.at_corner.ensures low) up c.crossing_of.ensures.value c.crossing_of.ensures.sized s
+      | in_default w ↦ end_begun _ hs _ _ _ w.in_default.is up c.crossing_of.ensures.value c.crossing_of.ensures.sized s
+    ]

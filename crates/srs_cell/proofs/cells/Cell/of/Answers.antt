@@ -24,5 +24,5 @@ invariant_of-result c =
       corners = k;
       inside = rw s (sum_inside c.args.region cs k (rw s at (c.if-not-is_inside.ensures.0 refl)));
       count = c.in_ok-corners.ensures.count;
-      near = c.in_ok-corners.ensures.near
+      near = c.in_ok-corners.ensures.near;
     }
