@@ -3,4 +3,5 @@ pub mod Section
 pub mod Extremes
 pub mod Keeping
 pub mod Boxed
-pub mod Clipped
+pub mod Cuts
+pub mod Areas
