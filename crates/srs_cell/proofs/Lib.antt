@@ -1,7 +1,10 @@
+pub mod Signs
 pub mod Clip
 pub mod Section
 pub mod Extremes
 pub mod Keeping
 pub mod Boxed
+pub mod BoxHull
 pub mod Cuts
 pub mod Areas
+pub mod Closed

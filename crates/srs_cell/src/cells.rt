@@ -43,8 +43,8 @@ impl Cell {
         }
         Ok(Some(Cell {
             region,
-            corners,
             sample,
+            corners,
         }))
     }
 

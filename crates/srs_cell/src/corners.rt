@@ -1,7 +1,8 @@
 // Cutting the corners of a region by a form.
-ghost use Rattle.std.specs.Prelude.{◌≡◌, ◌≤◌, ◌^◌, ◌↔◌, ◌+◌, ◌∷◌, ◌++◌, [], IsTrue, IfOk, MatchOption, All, length, take};
-ghost use Rattle.srs_num.specs.Points.{IsPointWithin};
-ghost use Rattle.srs_cell.specs.Hull.{IsAbove, IsBelow, IsHull};
+ghost use Rattle.std.specs.Prelude.{◌≡◌, ◌≤◌, ◌^◌, ◌↔◌, ◌+◌, ◌∷◌, ◌++◌, [], IsTrue, IfOk, OnOk, MatchOption, All, length, take};
+ghost use Rattle.srs_num.specs.Points.{Point, IsNear, IsPointWithin};
+ghost use Rattle.srs_plane.specs.Regions.{IsIn};
+ghost use Rattle.srs_cell.specs.Hull.{IsInHalves, IsAbove, IsBelow, IsHull};
 ghost use Rattle.srs_cell.specs.Corners.{box, boxed, AreCorners};
 ghost use Rattle.srs_cell.specs.Cutting.{IsKept, IsLeft};
 
@@ -45,14 +46,24 @@ fn all_below(corners: &[Corner], line: &Form) -> bool
     true
 }
 
+// Appends the corner.
+fn add_corner(corners: &mut Vec<Corner>, corner: Corner) -> Result<(), NoMemory>
+    ensures { OnOk result (corners.new.items ≡ corners.old.items ++ corner ∷ []) }
+{
+    match corners.push(corner) {
+        Ok(()) => Ok(()),
+        Err(_) => Err(NoMemory),
+    }
+}
+
 // The corners at which the line's form is at least 0.
 fn keep_above(alloc: Global, corners: &[Corner], line: &Form) -> Result<Vec<Corner>, NoMemory>
     ensures { IfOk result (λ kept. IsKept line.now corners.now kept.items) }
 {
     let mut kept = Vec::new(alloc);
     for corner in corners {
-        if line.at_corner(corner) >= 0 && kept.push(*corner).is_err() {
-            return Err(NoMemory);
+        if line.at_corner(corner) >= 0 {
+            add_corner(&mut kept, *corner)?;
         }
     }
     Ok(kept)
@@ -60,7 +71,13 @@ fn keep_above(alloc: Global, corners: &[Corner], line: &Form) -> Result<Vec<Corn
 
 // What the line's form leaves of the region's first `count` halves, whose corners these are.
 // It goes over the corners, and over the halves once for each end of the cut. It takes memory only for a part.
-pub(crate) fn clip_corners(alloc: Global, region: &Region, count: u32, corners: &[Corner], line: &Form) -> Result<Remains, NoMemory>
+pub(crate) fn clip_corners(
+    alloc: Global,
+    region: &Region,
+    count: u32,
+    corners: &[Corner],
+    line: &Form,
+) -> Result<Remains, NoMemory>
     requires count { count ≤ length region.now }
     requires hull { IsHull (boxed (take count region.now)) corners.now }
     requires sized { All (IsPointWithin (2 ^ 77)) corners.now }
@@ -72,16 +89,16 @@ pub(crate) fn clip_corners(alloc: Global, region: &Region, count: u32, corners: 
     if all_below(corners, line) {
         return Ok(Remains::Nothing);
     }
+    let mut part = keep_above(alloc, corners, line)?;
     let Some(first) = line_end(region, count, line) else {
         unreachable!()
     };
-    let Some(second) = line_end(region, count, &line.opposite()) else {
+    let turned = line.opposite();
+    let Some(second) = line_end(region, count, &turned) else {
         unreachable!()
     };
-    let mut part = keep_above(alloc, corners, line)?;
-    if part.push(first).is_err() || part.push(second).is_err() {
-        return Err(NoMemory);
-    }
+    add_corner(&mut part, first)?;
+    add_corner(&mut part, second)?;
     Ok(Remains::Part(part))
 }
 
@@ -108,20 +125,21 @@ pub(crate) fn copied(alloc: Global, corners: &[Corner]) -> Result<Vec<Corner>, N
 {
     let mut copy = Vec::new(alloc);
     for corner in corners {
-        if copy.push(*corner).is_err() {
-            return Err(NoMemory);
-        }
+        add_corner(&mut copy, *corner)?;
     }
     Ok(copy)
 }
 
 // The corners of the region's halves, where open edges count as closed. `None`: these have no point.
 pub(crate) fn corners_of(alloc: Global, region: &Region) -> Result<Option<Vec<Corner>>, NoMemory>
-    ensures { IfOk result
-        (λ found. MatchOption found (IsHull (boxed region.now) []) (λ corners. AreCorners region.now corners.items)) }
+    ensures count { length region.now ≤ 80 }
+    ensures near { (r : Point) → IsIn region.now r → IsNear r }
+    ensures found { IfOk result
+        (λ found. MatchOption found ((z : Point) → IsInHalves (boxed region.now) z → ⊥) (λ corners. AreCorners region.now corners.items)) }
 {
+    let count = region.len();
     let mut corners = box_corners(alloc)?;
-    for i in 0..region.len() {
+    for i in 0..count {
         let half = region.half(i);
         match clip_corners(alloc, region, i, &corners, &half.form)? {
             Remains::Whole => {}

@@ -18,6 +18,16 @@ use Rattle.srs_tool.specs.declared.status.Status.TheVariants.{Done, Bad, Usage, 
 abbrev pub cycle_one : List ℤ
 cycle_one = pos 1 ∷ []
 
+-- the lines that refusals print
+abbrev pub refused_input : List ℕ
+refused_input = codes "refused input\n"
+
+abbrev pub refused_unbuilt : List ℕ
+refused_unbuilt = codes "refused unbuilt\n"
+
+abbrev pub refused_long : List ℕ
+refused_long = codes "refused long\n"
+
 -- the text is that of no polygon
 abbrev pub SpellsNoPolygon : List ℕ → Type 0
 SpellsNoPolygon text = (vs : List Vertex) → SpellsPolygon text vs → ⊥
@@ -36,12 +46,12 @@ pub record IsUnbuilt (input output : List ℕ) : Type 0 where
   pub vertices : List Vertex
   pub polygon : SpellsPolygon input vertices
   pub uncovered : Covers (region_of vertices) cycle_one → ⊥
-  pub written : output ≡ codes "refused unbuilt\n"
+  pub written : output ≡ refused_unbuilt
 
 -- The input is no polygon, and the output says so.
 pub record IsNoInput (input output : List ℕ) : Type 0 where
   pub no_polygon : SpellsNoPolygon input
-  pub written : output ≡ codes "refused input\n"
+  pub written : output ≡ refused_input
 
 -- what is written at Done and at Refused for the bytes that were read
 abbrev pub Owes : Budget → List ℕ → Status → List ℕ → Type 0

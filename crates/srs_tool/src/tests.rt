@@ -1,0 +1,224 @@
+// Runs over memory: what is printed, with which status, for which words and input.
+use crate::plain::plain;
+use crate::status::Status;
+use srs_text::{Bytes, MemSink, MemSource, NoMemory, Nums, StdSink, StdSource, write_all};
+use std::alloc::{AllocError, Global};
+use std::test::Fail;
+
+const ROOM: u64 = 1 << 16;
+const NEVER: i64 = -1;
+
+const CYCLE_ONE: &str = "polygon 3\nge -2 -1 4\nge -1 -2 4\nge -1 -1 4\nend\n";
+const CYCLE_ONE_CERTIFICATE: &str =
+    "srs 1\npolygon 3\nge -2 -1 4\nge -1 -2 4\nge -1 -1 4\nlimits 0 1 16\nout 1 1\nend\n";
+
+fn bytes_of(alloc: Global, text: &[u8]) -> Result<Bytes, NoMemory> {
+    let mut bytes = Bytes::new(alloc);
+    bytes.extend(text)?;
+    Ok(bytes)
+}
+
+fn words_of(alloc: Global, line: &str) -> Result<Vec<String>, AllocError> {
+    let mut words = Vec::new(alloc);
+    if !line.is_empty() {
+        for word in line.split(' ') {
+            words.push(String::from_str(alloc, word)?)?;
+        }
+    }
+    Ok(words)
+}
+
+fn number_list(alloc: Global, n: i64) -> Result<Nums, i64> {
+    let mut numbers = Nums::new(alloc);
+    numbers.push(n)?;
+    Ok(numbers)
+}
+
+// One run: the words, the input, the read and the write that fail, and what comes of it.
+struct Run {
+    words: &'static str,
+    input: &'static str,
+    failing_read: i64,
+    failing_write: i64,
+    status: Status,
+    output: &'static str,
+}
+
+fn certify(input: &'static str, status: Status, output: &'static str) -> Run {
+    Run {
+        words: "certify 0 1 16",
+        input,
+        failing_read: NEVER,
+        failing_write: NEVER,
+        status,
+        output,
+    }
+}
+
+fn usage(words: &'static str) -> Run {
+    Run {
+        words,
+        input: CYCLE_ONE,
+        failing_read: NEVER,
+        failing_write: NEVER,
+        status: Status::Usage,
+        output: "",
+    }
+}
+
+fn shows(rt: &HostRuntime, run: &Run) -> Result<(), Fail> {
+    let alloc = rt.alloc();
+    let words = words_of(alloc, run.words)?;
+    let input = bytes_of(alloc, run.input.as_bytes())?;
+    let mut source = MemSource::new(input, number_list(alloc, run.failing_read)?);
+    let mut sink = MemSink::new(alloc, ROOM, number_list(alloc, run.failing_write)?)?;
+    let status = plain(alloc, words.as_slice(), &mut source, &mut sink);
+    assert_eq!(rt; status, run.status, "at {:?}", run.input);
+    assert_eq!(rt; sink.bytes(), run.output.as_bytes());
+    if status == Status::Usage {
+        assert_eq!(rt; source.rest(), run.input.as_bytes());
+    }
+    Ok(())
+}
+
+#[test]
+fn polygons(rt: HostRuntime) -> Result<(), Fail> {
+    let runs = [
+        certify(CYCLE_ONE, Status::Done, CYCLE_ONE_CERTIFICATE),
+        // each corner has x + y from -1 to -1/2
+        certify(
+            "polygon 3\nge -1 -1 2\nge -1 -1 4\nge -1 0 2\nend\n",
+            Status::Done,
+            "srs 1\npolygon 3\nge -1 -1 2\nge -1 -1 4\nge -1 0 2\nlimits 0 1 16\nout 1 1\nend\n",
+        ),
+        // the corner (0, 0) has x + y = 0
+        certify(
+            "polygon 3\nge -1 -1 2\nge 0 0 1\nge -1 0 2\nend\n",
+            Status::Refused,
+            "refused unbuilt\n",
+        ),
+        // and is left out, where both its edges are open
+        certify(
+            "polygon 3\ngt -1 -1 2\ngt 0 0 1\nge -1 0 2\nend\n",
+            Status::Done,
+            "srs 1\npolygon 3\ngt -1 -1 2\ngt 0 0 1\nge -1 0 2\nlimits 0 1 16\nout 1 1\nend\n",
+        ),
+        // corner_triangle: its points have x + y at least 0
+        certify(
+            "polygon 3\nge 0 0 1\nge 1 0 8\nge 0 1 8\nend\n",
+            Status::Refused,
+            "refused unbuilt\n",
+        ),
+        // a square with four vertices
+        certify(
+            "polygon 4\nge -1 -1 2\nge -1 -1 4\nge -3 0 8\nge -1 0 2\nend\n",
+            Status::Done,
+            "srs 1\npolygon 4\nge -1 -1 2\nge -1 -1 4\nge -3 0 8\nge -1 0 2\nlimits 0 1 16\nout 1 1\nend\n",
+        ),
+    ];
+    for run in &runs {
+        shows(&rt, run)?;
+    }
+    Ok(())
+}
+
+#[test]
+fn words(rt: HostRuntime) -> Result<(), Fail> {
+    let runs = [
+        usage("certify 0 1 0"),
+        usage("certify 0 1 16385"),
+        usage("certify 0 1 016"),
+        usage("certify 1 1 16"),
+        usage("certify 0 2 16"),
+        usage("certify 0 1"),
+        usage("certify 0 1 16 1"),
+        usage("certify"),
+        usage("Certify 0 1 16"),
+        usage(""),
+        usage("--help"),
+    ];
+    for run in &runs {
+        shows(&rt, run)?;
+    }
+    Ok(())
+}
+
+#[test]
+fn malformed_inputs(rt: HostRuntime) -> Result<(), Fail> {
+    let inputs = [
+        "",
+        "polygon 0\n",
+        "polygon 2\nge -2 -1 4\nge -1 -2 4\nend\n",
+        "polygon 17\n",
+        "polygon 3\nge -2 -1 4\nge -1 -2 4\nge -1 -1 4\nend",
+        "polygon 3\r\nge -2 -1 4\r\nge -1 -2 4\r\nge -1 -1 4\r\nend\r\n",
+        "polygon 3\nge  -2 -1 4\nge -1 -2 4\nge -1 -1 4\nend\n",
+        "polygon 3\nge -2 -1 4 \nge -1 -2 4\nge -1 -1 4\nend\n",
+        "polygon 3\nge -2 -1 04\nge -1 -2 4\nge -1 -1 4\nend\n",
+        "polygon 3\nge -2 -1 +4\nge -1 -2 4\nge -1 -1 4\nend\n",
+        "polygon 3\nge -2 -0 4\nge -1 -2 4\nge -1 -1 4\nend\n",
+        "polygon 3\nge -20000000000000000000 -1 4\nge -1 -2 4\nge -1 -1 4\nend\n",
+        "polygon 3\nge -2 -1 4\nge -1 -2 4\nge -1 -1 4\nge -2 -1 4\nend\n",
+        "polygon 3\nle -2 -1 4\nge -1 -2 4\nge -1 -1 4\nend\n",
+        "polygon 3\nge -2 -1 4\nge -1 -2 4\nge -1 -1 4\nend\nend\n",
+        "polygon 3\nge -2 -1 4\nge -1 -2 4\nge -1 -1 4\nend\nx",
+        "polygon 3\n\nge -2 -1 4\nge -1 -2 4\nge -1 -1 4\nend\n",
+        "polygon 3\nGE -2 -1 4\nge -1 -2 4\nge -1 -1 4\nend\n",
+        "polygon 3\nge -2 -1 4\nge -1 -2 4\nge -1 -1 4\nEnd\n",
+        "polygon 3\nge -2 -1 4\u{0}\nge -1 -2 4\nge -1 -1 4\nend\n",
+        "polygon 3\nge -2 -1 4\nge \u{e9}1 -2 4\nge -1 -1 4\nend\n",
+        "polygon 3\nge -2 -1\nge -1 -2 4\nge -1 -1 4\nend\n",
+        "polygon 3\nge -2 -1 0\nge -1 -2 4\nge -1 -1 4\nend\n",
+        "polygon 3\nge 1 0 65537\nge -1 -2 4\nge -1 -1 4\nend\n",
+        "polygon 3\nge 262145 0 65536\nge -1 -2 4\nge -1 -1 4\nend\n",
+        // on one line, turned the other way, twice round, and dented by nothing
+        "polygon 3\nge 0 0 1\nge 1 0 8\nge 1 0 4\nend\n",
+        "polygon 3\nge 0 0 1\nge 0 1 8\nge 1 0 8\nend\n",
+        "polygon 5\nge 0 3 1\nge -2 -2 1\nge 3 1 1\nge -3 1 1\nge 2 -2 1\nend\n",
+        "polygon 5\nge 0 0 1\nge 1 0 1\nge 1 1 1\nge 0 1 1\nge 0 1 2\nend\n",
+    ];
+    for input in inputs {
+        shows(&rt, &certify(input, Status::Refused, "refused input\n"))?;
+    }
+    Ok(())
+}
+
+#[test]
+fn failing_ends(rt: HostRuntime) -> Result<(), Fail> {
+    let run = certify(CYCLE_ONE, Status::ReadFault, "");
+    shows(&rt, &Run { failing_read: 0, ..run })?;
+    let run = certify(CYCLE_ONE, Status::WriteFault, "");
+    shows(&rt, &Run { failing_write: 0, ..run })?;
+    Ok(())
+}
+
+#[test]
+fn long_source(rt: HostRuntime) -> Result<(), Fail> {
+    let alloc = rt.alloc();
+    let mut input = Bytes::new(alloc);
+    for _ in 0..256 {
+        input.extend(&[b'a'; 4096])?;
+    }
+    input.extend(b"a")?;
+    let words = words_of(alloc, "certify 0 1 16")?;
+    let mut source = MemSource::new(input, Nums::new(alloc));
+    let mut sink = MemSink::new(alloc, ROOM, Nums::new(alloc))?;
+    let status = plain(alloc, words.as_slice(), &mut source, &mut sink);
+    assert_eq!(rt; status, Status::TooLong);
+    assert_eq!(rt; sink.bytes(), b"refused long\n".as_slice());
+    assert!(rt; source.rest().is_empty());
+    Ok(())
+}
+
+// The adapters over standard input, which is empty here, and standard output.
+#[test]
+fn standard_streams(rt: HostRuntime) -> Result<(), Fail> {
+    let alloc = rt.alloc();
+    let words = words_of(alloc, "certify 0 1 16")?;
+    let mut source = StdSource::new(rt.stdin());
+    let mut sink = StdSink::new(rt.stdout());
+    let status = plain(alloc, words.as_slice(), &mut source, &mut sink);
+    assert_eq!(rt; status, Status::Refused);
+    assert!(rt; write_all(&mut sink, b"standard output\n").is_ok());
+    Ok(())
+}
