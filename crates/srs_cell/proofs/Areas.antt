@@ -86,7 +86,7 @@ in_first R i z z_in =
     }
 
 -- ---- points of the region
-asked : (k : Kind) (v : ℤ) → Asks k v → pos 0 ≤ℤ v
+pub asked : (k : Kind) (v : ℤ) → Asks k v → pos 0 ≤ℤ v
 asked Ge v h = h
 asked Gt v h = above v h
   where

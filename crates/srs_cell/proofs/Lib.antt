@@ -8,3 +8,5 @@ pub mod BoxHull
 pub mod Cuts
 pub mod Areas
 pub mod Closed
+pub mod Least
+pub mod Infima

@@ -1,3 +1,4 @@
 pub mod Hull
 pub mod Cutting
 pub mod Corners
+pub mod Bounds

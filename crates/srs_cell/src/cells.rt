@@ -1,7 +1,8 @@
 // Cells, and how they are made.
 ghost use Rattle.std.specs.Prelude.{◌≡◌, ◌↔◌, IsTrue, IfOk, MatchOption, All};
 ghost use Rattle.srs_plane.specs.Regions.{IsIn, IsInHalf, HasPoint};
-ghost use Rattle.srs_cell.specs.Corners.{AreCorners};
+ghost use Rattle.srs_num.specs.Points.{Point};
+ghost use Rattle.srs_cell.specs.Corners.{IsCell};
 
 use crate::corners::{copied, corners_of};
 use srs_num::{Corner, NoMemory, sum};
@@ -74,9 +75,9 @@ impl Cell {
         })
     }
 
-    // The corners, of which there are at most 84.
+    // The corners, at most 84 of them.
     pub(crate) fn corners(&self) -> &[Corner]
-        ensures { AreCorners self.now result.now }
+        ensures { (sample : Point) × IsCell self.now result.now sample }
     {
         &self.corners
     }

@@ -1,8 +1,10 @@
 //! Cells: regions that have a point, with their corners.
 #![tactic(auto)]
 
+mod bounds;
 mod cells;
 mod corners;
 mod ends;
 
+pub use bounds::Bound;
 pub use cells::Cell;
