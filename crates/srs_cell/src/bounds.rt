@@ -1,6 +1,7 @@
 // The least and the greatest value of a form over a cell.
 ghost use Rattle.std.specs.Prelude.{◌≡◌, ◌≤◌, ◌^◌, ◌↔◌, IsTrue, All, length};
-ghost use Rattle.srs_num.specs.Points.{value, IsWithin, IsPointWithin};
+ghost use Rattle.srs_num.specs.Points.{Point, value, IsNear, IsWithin, IsPointWithin};
+ghost use Rattle.srs_plane.specs.Regions.{IsIn};
 ghost use Rattle.srs_cell.specs.Bounds.{IsLow, IsHigh, IsBoundSized, IsLower, IsLeastCorner, IsLeastSum};
 
 use crate::Cell;
@@ -21,6 +22,7 @@ impl Cell {
     pub fn low(&self, f: &Form) -> Bound
         ensures low { IsLow self.now f.now result }
         ensures sized { IsBoundSized result }
+        ensures near { (r : Point) → IsIn self.now r → IsNear r }
     {
         let corners = self.corners();
         let least = least_corner(f, corners);

@@ -5,6 +5,8 @@ mod bounds;
 mod cells;
 mod corners;
 mod ends;
+mod moves;
 
 pub use bounds::Bound;
 pub use cells::Cell;
+pub use moves::Span;
