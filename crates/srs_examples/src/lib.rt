@@ -3,6 +3,10 @@
 #![tactic(auto)]
 
 #[cfg(test)]
+mod cells;
+#[cfg(test)]
+mod counting;
+#[cfg(test)]
 mod orbits;
 #[cfg(test)]
 mod polygons;
