@@ -1,6 +1,13 @@
+pub mod Signs
 pub mod Clip
 pub mod Section
 pub mod Extremes
 pub mod Keeping
 pub mod Boxed
-pub mod Clipped
+pub mod BoxHull
+pub mod Cuts
+pub mod Areas
+pub mod Closed
+pub mod Least
+pub mod Infima
+pub mod LeastFloors

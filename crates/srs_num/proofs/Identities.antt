@@ -1,10 +1,10 @@
 -- The identities of the plane that the proofs of the cells stand on.
-use Rattle.std.proofs.Common.{◌≡◌, ℕ, zero, suc, ◌+◌, List, [], ◌∷◌, ℤ, pos, negsuc, ◌+ℤ◌, ◌-ℤ◌, ◌*ℤ◌, neg_ℤ, refl, sym, ap, ◌∙◌, arith}
+use Rattle.std.proofs.Common.{◌≡◌, ℕ, ◌+◌, List, [], ◌∷◌, ℤ, pos, ◌+ℤ◌, ◌-ℤ◌, ◌*ℤ◌, neg_ℤ, refl, arith}
 use Rattle.srs_num.specs.Points.{LinearForm, Point, value, opposite}
 use Rattle.srs_num.specs.Lines.{meet, edge_form, plus}
 use Rattle.srs_num.proofs.Linear.{linear}
 use Rattle.srs_num.proofs.Combinations.{combine, mix, depth}
-use Rattle.srs_num.proofs.Ring.{Expr, v, lit, ◌⊕◌, ◌⊖◌, ◌⊗◌, minus, evaluate, ring}
+use Rattle.srs_num.proofs.Ring.{Expr, v, lit, ◌⊕◌, ◌⊖◌, ◌⊗◌, minus, ring}
 
 -- triples of expressions
 record Triple : Type 0 where
@@ -35,7 +35,7 @@ pub value-meet_second : (f g : LinearForm) → value g (meet f g) ≡ pos 0
 unfolding value meet
 value-meet_second f g = ring (of_form f (of_form g [])) (dot (triple 3) (wedge (triple 0) (triple 3))) (lit (pos 0)) tt
 
--- the area of the corners times the value of f, for a form that is good value three corners
+-- the area of three corners times the value of f at z is a sum of its values at the corners
 pub area_identity : (u t w z : Point) (f : LinearForm) →
     value (edge_form u t) w *ℤ value f z ≡ value (edge_form t w) z *ℤ value f u +ℤ value (edge_form w u) z *ℤ value f t +ℤ value (edge_form u t) z *ℤ value f w
 unfolding value edge_form
