@@ -17,8 +17,8 @@ returns-in_err-put_outcome-clause-err c =
     let head = count_text (codes "srs") 1 ++ ring_text c.args.vertices.now ++ limits_text c.args.limits.now in
     let tree = flat_map outcome_text (c.args.outcome.now ∷ []) in
     rw p.1 (sooner c.args.out.now (head ++ tree) (ended (codes "end")) c.put_outcome.new.out
-      (later c.args.out.now c.put_head.new.out head tree c.put_outcome.new.out c.in_ok-put_head.ensures.ok
-        (sooner c.put_head.new.out (outcome_text c.args.outcome.now) [] c.put_outcome.new.out c.in_err-put_outcome.ensures.err)))
+    (later c.args.out.now c.put_head.new.out head tree c.put_outcome.new.out c.in_ok-put_head.ensures.ok
+    (sooner c.put_head.new.out (outcome_text c.args.outcome.now) [] c.put_outcome.new.out c.in_err-put_outcome.ensures.err)))
 
 pub returns-clause-err : goal.returns-clause-err
 returns-clause-err c =
@@ -26,6 +26,6 @@ returns-clause-err c =
     let tree = flat_map outcome_text (c.args.outcome.now ∷ []) in
     let written : c.put_outcome.new.out ≡ c.put_head.new.out ++ tree = rw (append-nil (outcome_text c.args.outcome.now)) c.in_ok-put_outcome.ensures.ok in
     on_err_weaker c.extend.result (λ (e : c.extend.new.self ≡ c.put_outcome.new.out).
-      later c.args.out.now c.put_outcome.new.out (head ++ tree) (ended (codes "end")) c.extend.new.self
-        (both c.args.out.now c.put_head.new.out head tree c.put_outcome.new.out c.in_ok-put_head.ensures.ok written)
-        (nothing c.put_outcome.new.out (ended (codes "end")) c.extend.new.self e)) c.extend.ensures.err
+    later c.args.out.now c.put_outcome.new.out (head ++ tree) (ended (codes "end")) c.extend.new.self
+    (both c.args.out.now c.put_head.new.out head tree c.put_outcome.new.out c.in_ok-put_head.ensures.ok written)
+    (nothing c.put_outcome.new.out (ended (codes "end")) c.extend.new.self e)) c.extend.ensures.err

@@ -18,7 +18,7 @@ returns-in_err-put_ring-clause-err c =
     let version = count_text (codes "srs") 1 in
     let ring = ring_text c.args.vertices.now in
     rw p.1 (sooner c.args.out.now (version ++ ring) (limits_text c.args.limits.now) c.put_ring.new.out
-      (later c.args.out.now c.put_count.new.out version ring c.put_ring.new.out c.in_ok-put_count.ensures.ok c.in_err-put_ring.ensures.err))
+    (later c.args.out.now c.put_count.new.out version ring c.put_ring.new.out c.in_ok-put_count.ensures.ok c.in_err-put_ring.ensures.err))
 
 pub returns-clause-err : goal.returns-clause-err
 returns-clause-err c =
@@ -26,5 +26,5 @@ returns-clause-err c =
     let ring = ring_text c.args.vertices.now in
     let limits = limits_text c.args.limits.now in
     on_err_weaker c.put_limits.result (λ (s : StopsIn c.put_ring.new.out limits c.put_limits.new.out).
-      later c.args.out.now c.put_ring.new.out (version ++ ring) limits c.put_limits.new.out
-        (both c.args.out.now c.put_count.new.out version ring c.put_ring.new.out c.in_ok-put_count.ensures.ok c.in_ok-put_ring.ensures.ok) s) c.put_limits.ensures.err
+    later c.args.out.now c.put_ring.new.out (version ++ ring) limits c.put_limits.new.out
+    (both c.args.out.now c.put_count.new.out version ring c.put_ring.new.out c.in_ok-put_count.ensures.ok c.in_ok-put_ring.ensures.ok) s) c.put_limits.ensures.err

@@ -1,4 +1,4 @@
-use Rattle.std.proofs.Common.{length, get_or, pos, arith}
+use Rattle.std.proofs.Common.{get_or, pos, arith}
 use Rattle.std.proofs.lemmas.Option.{slice_get-get_or}
 use Rattle.std.proofs.lemmas.Result.{err_from_is_err_and}
 use Rattle.srs_plane.specs.declared.halves.Kind.TheVariants.{Ge}

@@ -16,4 +16,4 @@ returns-in_err-put_field-clause-err c =
     let field : StopsIn c.extend.new.self (32 ∷ signed_decimal (pos c.args.n)) c.put_field.new.out = rw is at c.in_err-put_field.ensures.err in
     let numbers = sooner c.extend.new.self (32 ∷ signed_decimal (pos c.args.n)) [] c.put_field.new.out field in
     rw p.1 (sooner c.args.out.now (line_of c.args.word.now (pos c.args.n ∷ [])) (10 ∷ []) c.put_field.new.out
-      (later c.args.out.now c.extend.new.self c.args.word.now ((32 ∷ signed_decimal (pos c.args.n)) ++ []) c.put_field.new.out c.in_ok-extend.ensures.ok numbers))
+    (later c.args.out.now c.extend.new.self c.args.word.now ((32 ∷ signed_decimal (pos c.args.n)) ++ []) c.put_field.new.out c.in_ok-extend.ensures.ok numbers))

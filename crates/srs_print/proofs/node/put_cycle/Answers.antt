@@ -24,5 +24,5 @@ returns-clause-err c =
     let field : c.put_field.new.out ≡ c.extend.new.self ++ count = rw (is, c.len.ensures.len) at c.in_ok-put_field.ensures.ok in
     let entries = flat_map (λ z. 32 ∷ signed_decimal z) c.args.cycle.now in
     on_err_weaker c.put_entries.result (λ (s : StopsIn c.put_field.new.out entries c.put_entries.new.out).
-      later c.args.out.now c.extend.new.self (codes "out") (count ++ entries) c.put_entries.new.out c.in_ok-extend.ensures.ok
-        (later c.extend.new.self c.put_field.new.out count entries c.put_entries.new.out field s)) c.put_entries.ensures.err
+    later c.args.out.now c.extend.new.self (codes "out") (count ++ entries) c.put_entries.new.out c.in_ok-extend.ensures.ok
+    (later c.extend.new.self c.put_field.new.out count entries c.put_entries.new.out field s)) c.put_entries.ensures.err
