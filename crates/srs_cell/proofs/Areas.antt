@@ -1,5 +1,5 @@
 -- The halves of a region as forms, one half at a time, and its points.
-use Rattle.std.proofs.Common.{◌≡◌, ℕ, ◌+◌, ◌^◌, ◌<◌, ◌≤◌, List, [], ◌∷◌, ◌++◌, map, length, length-append, take, take_all, get_or, slice_get, ℤ, pos, negsuc, neg_ℤ, ◌+ℤ◌, ◌*ℤ◌, ◌≤ℤ◌, ◌<ℤ◌, All, Some, refl, sym, ap, ◌∙◌, arith}
+use Rattle.std.proofs.Common.{◌≡◌, ℕ, ◌+◌, ◌^◌, ◌<◌, ◌≤◌, List, [], ◌∷◌, ◌++◌, map, length, length-append, take, take_all, get_or, slice_get, ℤ, pos, negsuc, ◌+ℤ◌, ◌≤ℤ◌, ◌<ℤ◌, All, Some, ap, ◌∙◌, arith}
 use Rattle.std.specs.List.{AllByRecursion}
 use Rattle.std.proofs.lemmas.Option.{get_or_from_slice_get}
 use Rattle.std.proofs.lemmas.List.{take_more, map-append}
@@ -11,7 +11,7 @@ use Rattle.srs_plane.specs.declared.halves.Half.{Half}
 use Rattle.srs_plane.specs.declared.halves.Kind.{Kind}
 use Rattle.srs_plane.specs.declared.halves.Kind.TheVariants.{Ge, Gt}
 use Rattle.srs_plane.specs.Regions.{Area, Asks, IsInHalf, IsIn, HasPoint}
-use Rattle.srs_cell.specs.Hull.{IsInHalves, IsAbove, IsBelow, IsHull}
+use Rattle.srs_cell.specs.Hull.{IsInHalves, IsAbove, IsBelow}
 use Rattle.srs_cell.specs.Corners.{side, box, boxed, AreCorners}
 use Rattle.srs_cell.specs.Cutting.{IsPart}
 use Rattle.srs_num.proofs.Combinations.{depth}

@@ -1,11 +1,11 @@
 -- The box |x| <= 4, |y| <= 4 and its four corners.
-use Rattle.std.proofs.Common.{◌≡◌, ℕ, List, [], ◌∷◌, ℤ, pos, negsuc, neg_ℤ, ◌+ℤ◌, ◌-ℤ◌, ◌*ℤ◌, ◌≤ℤ◌, ◌<ℤ◌, All, refl, sym, ap, ◌∙◌, arith}
+use Rattle.std.proofs.Common.{◌≡◌, [], ◌∷◌, ℤ, pos, negsuc, neg_ℤ, ◌+ℤ◌, ◌-ℤ◌, ◌*ℤ◌, ◌≤ℤ◌, ◌<ℤ◌, All, refl, sym, ◌∙◌, arith}
 use Rattle.std.proofs.lemmas.Int.{ints}
 use Rattle.std.proofs.lemmas.List.Elements.{All-nil, All-cons, All-head, All-tail}
 use Rattle.srs_num.specs.Points.{LinearForm, Point, value, IsNear}
 use Rattle.srs_num.specs.Lines.{meet}
 use Rattle.srs_num.proofs.Linear.{linear, mul_nonneg, mul_pos, nonneg_from}
-use Rattle.srs_num.proofs.Ring.{Expr, v, lit, ◌⊕◌, ◌⊖◌, ◌⊗◌, minus, ring}
+use Rattle.srs_num.proofs.Ring.{Expr, v, lit, ◌⊕◌, ◌⊖◌, ◌⊗◌, ring}
 use Rattle.srs_cell.specs.Hull.{IsInHalves, IsHull}
 use Rattle.srs_cell.specs.Corners.{side, box}
 

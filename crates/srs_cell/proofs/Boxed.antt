@@ -1,12 +1,12 @@
 -- Within the box |x| <= 4, |y| <= 4 each line that has points on both sides has an end.
-use Rattle.std.proofs.Common.{◌≡◌, ℕ, List, [], ◌∷◌, ◌++◌, ℤ, pos, negsuc, ◌+ℤ◌, ◌-ℤ◌, ◌*ℤ◌, neg_ℤ, ◌≤ℤ◌, ◌<ℤ◌, refl, sym, ap, ◌∙◌, arith, All, Contains, lit<}
+use Rattle.std.proofs.Common.{◌≡◌, List, [], ◌∷◌, ◌++◌, ℤ, pos, negsuc, ◌+ℤ◌, ◌-ℤ◌, ◌*ℤ◌, neg_ℤ, ◌≤ℤ◌, ◌<ℤ◌, refl, ap, ◌∙◌, arith, All, Contains, lit<}
 use Rattle.std.proofs.lemmas.Int.{by_lt_z}
 use Rattle.srs_num.specs.Points.{LinearForm, Point, value, opposite}
 use Rattle.srs_num.specs.Lines.{meet}
-use Rattle.srs_cell.specs.Corners.{side, box, boxed}
+use Rattle.srs_cell.specs.Corners.{side, box}
 use Rattle.std.proofs.lemmas.List.Elements.{All-contains, All-contains_itself, Contains-append_left}
-use Rattle.srs_num.proofs.Linear.{linear, mul_comm, mul_zero, mul_nonneg, mul_pos}
-use Rattle.srs_num.proofs.Ring.{Expr, v, lit, ◌⊕◌, ◌⊖◌, ◌⊗◌, minus, evaluate, ring}
+use Rattle.srs_num.proofs.Linear.{linear, mul_nonneg, mul_pos}
+use Rattle.srs_num.proofs.Ring.{v, lit, ◌⊕◌, ◌⊖◌, ◌⊗◌, minus, ring}
 
 -- the box is among the halves
 pub record IsBoxed (hs : List LinearForm) : Type 0 where

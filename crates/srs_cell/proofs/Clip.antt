@@ -1,14 +1,14 @@
 -- Cutting a list of corners by a form.
-use Rattle.std.proofs.Common.{◌≡◌, ℕ, zero, suc, ◌+◌, ◌<◌, ◌≤◌, List, [], ◌∷◌, ◌++◌, ℤ, pos, negsuc, ◌+ℤ◌, ◌-ℤ◌, ◌*ℤ◌, neg_ℤ, ◌≤ℤ◌, ◌<ℤ◌, ◌⊎◌, inl, inr, All, refl, sym, ap, ◌∙◌, subst, arith, get_or}
+use Rattle.std.proofs.Common.{◌≡◌, List, [], ◌∷◌, ℤ, pos, ◌+ℤ◌, ◌-ℤ◌, ◌*ℤ◌, neg_ℤ, ◌≤ℤ◌, ◌<ℤ◌, All, sym, ap, ◌∙◌, arith, get_or}
 use Rattle.std.proofs.lemmas.Int.{by_lt_z}
 use Rattle.srs_num.specs.Points.{LinearForm, Point, value}
 use Rattle.srs_num.specs.Lines.{meet}
 use Rattle.srs_num.proofs.Combinations.{combine, mix, depth}
 use Rattle.srs_cell.specs.Hull.{IsInHalves, IsAbove, IsHull}
-use Rattle.std.proofs.lemmas.List.Elements.{All-nil, All-cons, All-head, All-tail, All-weaker, All-append}
-use Rattle.srs_num.proofs.Linear.{linear, mul_zero, mul_one, mul_neg, mul_comm, mul_nonneg, mul_pos, nonneg_from, pos_from, zero_from}
-use Rattle.srs_num.proofs.Ring.{Expr, v, lit, ◌⊕◌, ◌⊖◌, ◌⊗◌, minus, evaluate, ring}
-use Rattle.srs_num.proofs.Identities.{value-meet_first, value-meet_second, cramer, value-combine, value-mix, along, value-depth, value-meet_depth, mix-d}
+use Rattle.std.proofs.lemmas.List.Elements.{All-nil, All-cons, All-head, All-tail, All-weaker}
+use Rattle.srs_num.proofs.Linear.{linear, mul_zero, mul_one, mul_neg, mul_comm, mul_nonneg, mul_pos, nonneg_from, zero_from}
+use Rattle.srs_num.proofs.Ring.{v, lit, ◌⊕◌, ◌⊖◌, ◌⊗◌, minus, ring}
+use Rattle.srs_num.proofs.Identities.{cramer, value-combine, value-mix, value-depth, value-meet_depth, mix-d}
 
 nonneg_by : (a b : ℤ) → a ≡ b → pos 0 ≤ℤ b → pos 0 ≤ℤ a
 nonneg_by a b e h = omega (arith, linear)
@@ -239,5 +239,6 @@ clip_whole hs cs us ns e h g hull cover us_in ns_in gu gn e_good h_good xd yd s 
   where
     both : (a : ℤ) → pos 0 ≤ℤ a → a ≤ℤ pos 0 → a ≡ pos 0
     both a h k = omega (arith, linear)
+
     turned : (a x b y r : ℤ) → r ≡ a *ℤ x +ℤ neg_ℤ b *ℤ y → a *ℤ x -ℤ b *ℤ y ≡ r
     turned a x b y r e = ring (a ∷ x ∷ b ∷ y ∷ []) (v 0 ⊗ v 1 ⊖ v 2 ⊗ v 3) (v 0 ⊗ v 1 ⊕ minus (v 2) ⊗ v 3) tt ∙ sym e

@@ -1,18 +1,17 @@
 -- The closed halves of a region that has a point: the box adds nothing to them.
-use Rattle.std.proofs.Common.{◌≡◌, List, get_or, ℤ, pos, negsuc, neg_ℤ, ◌+ℤ◌, ◌-ℤ◌, ◌*ℤ◌, ◌≤ℤ◌, ◌<ℤ◌, All, sym, arith, ◌∷◌, []}
+use Rattle.std.proofs.Common.{◌≡◌, List, get_or, ℤ, pos, neg_ℤ, ◌+ℤ◌, ◌-ℤ◌, ◌*ℤ◌, ◌≤ℤ◌, ◌<ℤ◌, arith, ◌∷◌, []}
 use Rattle.std.proofs.lemmas.Int.{by_lt_z}
-use Rattle.std.proofs.lemmas.List.Elements.{All-contains, All-from_recursion}
+use Rattle.std.proofs.lemmas.List.Elements.{All-from_recursion}
 use Rattle.srs_num.specs.Points.{Point, LinearForm, value, IsNear}
 use Rattle.srs_num.proofs.Linear.{linear, mul_one, mul_nonneg}
 use Rattle.srs_num.proofs.Combinations.{mix}
 use Rattle.srs_num.proofs.Identities.{value-mix, mix-d}
 use Rattle.srs_num.proofs.Ring.{lit, ◌⊕◌, ◌⊖◌, ◌⊗◌, v, minus, ring}
-use Rattle.srs_plane.specs.declared.halves.Half.{Half}
 use Rattle.srs_plane.specs.declared.halves.Kind.{Kind}
 use Rattle.srs_plane.specs.declared.halves.Kind.TheVariants.{Ge, Gt}
 use Rattle.srs_plane.specs.Regions.{Area, Asks, IsInHalf, IsIn, IsInClosed}
 use Rattle.srs_cell.specs.Hull.{IsInHalves, IsAbove}
-use Rattle.srs_cell.specs.Corners.{side, box, boxed, IsCell}
+use Rattle.srs_cell.specs.Corners.{box, boxed, IsCell}
 use Rattle.srs_cell.proofs.Signs.{both_signs}
 use Rattle.srs_cell.proofs.BoxHull.{near_in_box, near_by_box}
 use Rattle.srs_cell.proofs.Areas.{all_by_recursion, boxed_all}

@@ -1,11 +1,10 @@
 -- The ways in which a cut ends.
-use Rattle.std.proofs.Common.{◌≡◌, ℕ, zero, suc, ◌+◌, ◌^◌, ◌≤◌, List, [], ◌∷◌, ◌++◌, length, length-append, get_or, ℤ, pos, ◌≤ℤ◌, ◌<ℤ◌, All, Some, refl, sym, arith}
+use Rattle.std.proofs.Common.{◌≡◌, ◌+◌, ◌^◌, ◌≤◌, List, [], ◌∷◌, ◌++◌, length, length-append, get_or, pos, ◌≤ℤ◌, ◌<ℤ◌, All, Some, refl, arith}
 use Rattle.std.proofs.lemmas.List.Elements.{All-nil, All-cons, All-push, All-pop, All-head, All-tail}
 use Rattle.srs_num.specs.Points.{LinearForm, Point, value, opposite, IsPointWithin}
 use Rattle.srs_num.specs.Lines.{meet}
-use Rattle.srs_num.proofs.Linear.{linear}
 use Rattle.srs_cell.specs.Hull.{IsInHalves, IsAbove, IsBelow, IsHull}
-use Rattle.srs_cell.specs.Cutting.{IsEnd, IsEndAt, IsKept, IsPart}
+use Rattle.srs_cell.specs.Cutting.{IsEndAt, IsKept, IsPart}
 use Rattle.srs_cell.proofs.Section.{in_more, in_front, in_last, clip_is_hull}
 use Rattle.srs_cell.proofs.Signs.{both_signs}
 use Rattle.srs_cell.proofs.Extremes.{all_below}

@@ -1,14 +1,14 @@
 -- What the corners tell of the points: whether there is one, the least value of a form, and whether a point takes it.
-use Rattle.std.proofs.Common.{◌≡◌, ℕ, ◌+◌, ◌<◌, ◌≤◌, List, [], ◌∷◌, ◌++◌, length, get_or, ℤ, pos, negsuc, ◌+ℤ◌, ◌-ℤ◌, ◌*ℤ◌, neg_ℤ, ◌≤ℤ◌, ◌<ℤ◌, ◌⊎◌, inl, inr, All, refl, sym, ap, ◌∙◌, arith, ⊎_elim}
+use Rattle.std.proofs.Common.{◌≡◌, List, [], ◌∷◌, get_or, ℤ, pos, negsuc, ◌+ℤ◌, ◌-ℤ◌, ◌*ℤ◌, neg_ℤ, ◌≤ℤ◌, ◌<ℤ◌, ◌⊎◌, All, refl, ap, ◌∙◌, arith, ⊎_elim}
 use Rattle.std.proofs.lemmas.Int.{by_lt_z}
 use Rattle.std.proofs.lemmas.List.Elements.{All-nil, All-cons, All-head, All-tail, All-weaker}
 use Rattle.srs_num.specs.Points.{LinearForm, Point, value, opposite}
 use Rattle.srs_num.proofs.Combinations.{combine, mix, depth}
 use Rattle.srs_cell.specs.Hull.{IsInHalves, IsAbove, IsHull}
 use Rattle.srs_num.specs.Lines.{sum_of}
-use Rattle.srs_num.proofs.Linear.{linear, mul_zero, mul_one, mul_neg, mul_comm, mul_nonneg, mul_pos, nonneg_from, pos_from}
-use Rattle.srs_num.proofs.Ring.{Expr, v, lit, ◌⊕◌, ◌⊖◌, ◌⊗◌, minus, evaluate, ring}
-use Rattle.srs_num.proofs.Identities.{value-combine, value-mix, value-depth, value-opposite, mix-d, value-nothing, value-plus}
+use Rattle.srs_num.proofs.Linear.{linear, mul_zero, mul_one, mul_comm, mul_nonneg, mul_pos}
+use Rattle.srs_num.proofs.Ring.{v, lit, ◌⊕◌, ◌⊖◌, ◌⊗◌, minus, ring}
+use Rattle.srs_num.proofs.Identities.{value-combine, value-mix, value-depth, value-opposite, value-nothing, value-plus}
 
 pub value-sum : (f : LinearForm) (c : Point) (cs : List Point) → value f (sum_of (c ∷ cs)) ≡ value f c +ℤ value f (sum_of cs)
 unfolding sum_of

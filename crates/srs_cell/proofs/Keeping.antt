@@ -1,10 +1,9 @@
 -- Corners sorted by a line, one at a time.
-use Rattle.std.proofs.Common.{◌≡◌, List, [], ◌∷◌, ◌++◌, ℤ, pos, ◌≤ℤ◌, ◌<ℤ◌, All, Some, Option, IfSome, refl, arith, length, length-append, ◌+◌, ◌≤◌}
+use Rattle.std.proofs.Common.{◌≡◌, List, [], ◌∷◌, ◌++◌, pos, ◌≤ℤ◌, ◌<ℤ◌, All, Some, refl, arith, length-append}
 use Rattle.std.proofs.lemmas.List.Elements.{All-nil, All-push, All-pop}
 use Rattle.srs_num.specs.Points.{LinearForm, Point, value, IsPointWithin}
 use Rattle.srs_cell.specs.Hull.{IsInHalves}
 use Rattle.srs_cell.specs.Cutting.{IsKept}
-use Rattle.srs_num.proofs.Linear.{linear}
 
 front : {X : Type 0} (P : X → Type 0) (xs : List X) (x : X) → All P (xs ++ x ∷ []) → All P xs
 front P xs x h = (All-pop P (xs ++ x ∷ []) xs (Some x) refl h).0

@@ -1,14 +1,14 @@
 -- The part of a line within some halves: its two ends, found one half at a time.
-use Rattle.std.proofs.Common.{◌≡◌, ℕ, ◌+◌, ◌^◌, ◌<◌, ◌≤◌, List, [], ◌∷◌, ◌++◌, length, get_or, ℤ, pos, negsuc, ◌+ℤ◌, ◌-ℤ◌, ◌*ℤ◌, neg_ℤ, ◌≤ℤ◌, ◌<ℤ◌, ◌⊎◌, inl, inr, All, Option, Some, None, MatchOption, refl, sym, ap, ◌∙◌, arith}
+use Rattle.std.proofs.Common.{◌≡◌, ◌^◌, List, [], ◌∷◌, ◌++◌, get_or, ℤ, pos, ◌+ℤ◌, ◌-ℤ◌, ◌*ℤ◌, neg_ℤ, ◌≤ℤ◌, ◌<ℤ◌, All, Option, Some, None, refl, sym, ap, ◌∙◌, arith}
 use Rattle.std.proofs.lemmas.Int.{by_lt_z}
-use Rattle.std.proofs.lemmas.List.Elements.{All-nil, All-cons, All-head, All-tail, All-weaker, All-push, All-pop}
+use Rattle.std.proofs.lemmas.List.Elements.{All-cons, All-head, All-tail, All-weaker, All-push, All-pop}
 use Rattle.srs_num.specs.Points.{LinearForm, Point, value, opposite, IsPointWithin}
 use Rattle.srs_num.specs.Lines.{meet}
 use Rattle.srs_num.proofs.Combinations.{mix, depth}
 use Rattle.srs_cell.specs.Hull.{IsInHalves, IsAbove, IsHull}
 use Rattle.srs_cell.specs.Cutting.{IsEnd, IsEndAt, IsFirstEnd}
-use Rattle.srs_num.proofs.Linear.{linear, mul_zero, mul_one, mul_neg, mul_comm, mul_nonneg, mul_pos, nonneg_from, pos_from, zero_from}
-use Rattle.srs_num.proofs.Identities.{value-meet_first, value-meet_second, cramer, along, value-depth, value-meet_depth, value-meet_turned, meet-d_turned, value-opposite, value-meet_parallel, value-meet_opposite, meet-d_opposite}
+use Rattle.srs_num.proofs.Linear.{linear, mul_zero, mul_comm, mul_nonneg, nonneg_from}
+use Rattle.srs_num.proofs.Identities.{value-meet_first, value-meet_second, cramer, along, value-depth, value-meet_turned, meet-d_turned, value-opposite, value-meet_parallel, value-meet_opposite, meet-d_opposite}
 use Rattle.srs_cell.proofs.Clip.{clip_whole, part_in_common}
 
 -- a point of the halves and one more

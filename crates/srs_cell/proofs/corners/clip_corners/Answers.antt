@@ -1,10 +1,8 @@
-use Rattle.std.proofs.Common.{◌≡◌, ◌∷◌, ◌++◌, [], map, take}
+use Rattle.std.proofs.Common.{map, take}
 use Rattle.std.proofs.lemmas.Bool.{false≢true}
-use Rattle.srs_num.specs.Lines.{meet}
-use Rattle.srs_num.specs.Points.{opposite}
-use Rattle.srs_cell.specs.Corners.{box, boxed}
+use Rattle.srs_cell.specs.Corners.{boxed}
 use Rattle.srs_cell.proofs.Boxed.{box-IsBoxed}
-use Rattle.srs_cell.proofs.Cuts.{IsCut, cut_of}
+use Rattle.srs_cell.proofs.Cuts.{cut_of}
 use Rattle.srs_cell.proofs.corners.clip_corners.Goals as goal
 
 pub unreachable-requires : goal.unreachable-requires

@@ -1,6 +1,4 @@
-use Rattle.std.proofs.Common.{◌<◌, ◌≤◌, length, arith, IfOk}
-use Rattle.std.proofs.lemmas.Result.{IfOk-at_ok}
-use Rattle.srs_cell.specs.Corners.{AreCorners}
+use Rattle.std.proofs.Common.{◌<◌, ◌≤◌, length, arith}
 use Rattle.srs_cell.proofs.Areas.{corners_whole, corners_part, corners_nothing, corners_done}
 use Rattle.srs_cell.proofs.corners.corners_of.Goals as goal
 use Rattle.srs_cell.proofs.corners.corners_of.Goals.{in-Whole, in-Part}

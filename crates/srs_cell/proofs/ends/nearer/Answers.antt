@@ -1,4 +1,4 @@
-use Rattle.std.proofs.Common.{◌≡◌, ℤ, pos, ◌≤ℤ◌, ◌<ℤ◌, arith, refl}
+use Rattle.std.proofs.Common.{pos, ◌≤ℤ◌, ◌<ℤ◌, arith}
 use Rattle.std.proofs.lemmas.Int.{ints}
 use Rattle.srs_cell.proofs.Section.{end_passed, end_kept, end_begun, end_moved}
 use Rattle.srs_cell.proofs.Signs.{at_most_by, at_least_by, below_by, above_by}
