@@ -11,10 +11,13 @@ use Rattle.srs_file.specs.declared.outline.Phase.{Phase}
 use Rattle.srs_file.specs.declared.outline.Phase.TheVariants.{Head, Vertices, Done}
 use Rattle.srs_file.specs.declared.outline.PolygonReader.{PolygonReader}
 use Rattle.srs_file.specs.Grammar.{SpellsPolygon}
-use Rattle.srs_file.specs.Ring.{RingView, Opens, SlipsOpen, TakesVertex, SlipsVertex}
+use Rattle.srs_file.specs.Ring.{RingView, Opens, IsOpenSlip, TakesVertex, SlipsVertex}
 
 abbrev pub StepsHead : PolygonReader → List ℕ → PolygonReader → Type 0
 StepsHead old line new = (ring : RingView) × Opens line ring × (new ≡ record { phase = Vertices; ring = ring })
+
+abbrev pub SlipsHead : List ℕ → Slip → ℕ → Type 0
+SlipsHead line slip back = IsOpenSlip line slip × (back ≡ 0)
 
 -- a vertex where one is to come, and else `end`
 abbrev pub StepsVertices : PolygonReader → List ℕ → PolygonReader → Type 0
@@ -33,7 +36,7 @@ StepsFrom Vertices old line new = StepsVertices old line new
 StepsFrom Done old line new = ⊥
 
 abbrev pub SlipsFrom : Phase → PolygonReader → List ℕ → Slip → ℕ → Type 0
-SlipsFrom Head old line slip back = SlipsOpen line slip back
+SlipsFrom Head old line slip back = SlipsHead line slip back
 SlipsFrom Vertices old line slip back = SlipsVertices old line slip back
 SlipsFrom Done old line slip back = ⊥
 

@@ -44,8 +44,8 @@ IsTurn vs slip back = (i : ℕ) × IsPolygonErr vs (polygons.Turn i) × (slip �
 abbrev pub Opens : List ℕ → RingView → Type 0
 Opens line new = (n : ℕ) × SaysCount (codes "polygon") 3 16 n line × (new ≡ record { left = n; vertices = []; region = None })
 
-abbrev pub SlipsOpen : List ℕ → Slip → ℕ → Type 0
-SlipsOpen line slip back = IsCountSlip (codes "polygon") 3 16 Count line slip × (back ≡ 0)
+abbrev pub IsOpenSlip : List ℕ → Slip → Type 0
+IsOpenSlip line slip = IsCountSlip (codes "polygon") 3 16 Count line slip
 
 -- The vertex is put at the end. With the last one the vertices are a polygon, whose region is kept.
 abbrev pub Adds : RingView → Vertex → RingView → Type 0

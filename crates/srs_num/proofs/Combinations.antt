@@ -1,5 +1,5 @@
 -- Weighted sums of forms and of points.
-use Rattle.std.proofs.Common.{ℤ, pos, ◌+ℤ◌, ◌*ℤ◌, List, [], ◌∷◌}
+use Rattle.std.proofs.Common.{ℤ, pos, ◌+ℤ◌, ◌*ℤ◌}
 use Rattle.srs_num.specs.Points.{LinearForm, Point}
 
 unfoldable pub combine : ℤ → LinearForm → ℤ → LinearForm → LinearForm

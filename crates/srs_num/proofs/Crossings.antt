@@ -1,10 +1,9 @@
 -- Where two lines cross, by the three numbers of a crossing.
-use Rattle.std.proofs.Common.{◌≡◌, ℕ, ◌-◌, ◌^◌, ◌≤◌, ◌≢◌, ℤ, pos, negsuc, ◌-ℤ◌, ◌*ℤ◌, neg_ℤ, ◌≤ℤ◌, ◌<ℤ◌, inl, inr, FitsSigned, w64, refl, sym, ap, ◌∙◌, arith, lit<, lit≤, List, [], ◌∷◌, MatchOption}
-use Rattle.std.proofs.lemmas.Int.{ints, by_lt_z}
+use Rattle.std.proofs.Common.{◌≡◌, ℕ, ◌^◌, ◌≤◌, ℤ, pos, ◌-ℤ◌, ◌*ℤ◌, neg_ℤ, ◌≤ℤ◌, ◌<ℤ◌, inl, inr, FitsSigned, w64, ap, ◌∙◌, arith, lit<, [], ◌∷◌}
 use Rattle.srs_num.specs.Points.{LinearForm, Point, value, IsWithin, IsPointWithin}
 use Rattle.srs_num.specs.Lines.{meet, IsCrossing}
 use Rattle.srs_num.proofs.Linear.{linear}
-use Rattle.srs_num.proofs.Ring.{Expr, v, ◌⊖◌, ◌⊗◌, ring}
+use Rattle.srs_num.proofs.Ring.{v, ◌⊗◌, ring}
 use Rattle.srs_num.proofs.Ranges.{within_more, small_fits}
 use Rattle.srs_num.proofs.Identities.{value-meet_first, value-meet_second, meet-d_turned}
 

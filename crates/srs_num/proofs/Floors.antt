@@ -1,12 +1,12 @@
 -- The quotient is the floor, a number has one floor, and what division with a remainder gives.
-use Rattle.std.proofs.Common.{◌≡◌, ℕ, ℤ, pos, negsuc, ◌+ℤ◌, ◌-ℤ◌, ◌*ℤ◌, neg_ℤ, ◌≤ℤ◌, ◌<ℤ◌, FitsSigned, of_z, ap, ◌∙◌, arith, List, [], ◌∷◌}
+use Rattle.std.proofs.Common.{◌≡◌, ℕ, ℤ, pos, negsuc, ◌+ℤ◌, ◌-ℤ◌, ◌*ℤ◌, neg_ℤ, ◌≤ℤ◌, ◌<ℤ◌, FitsSigned, of_z, ap, ◌∙◌, arith, [], ◌∷◌}
 use Rattle.std.proofs.lemmas.Int.{ints, by_lt_z}
 use Rattle.std.specs.Int.{int_div_euclid, int_rem_euclid, w128}
 use Rattle.srs_num.specs.Points.{IsWithin}
 use Rattle.srs_num.specs.Floor.{IsFloor, IsCeiling, floor_quotient}
 use Rattle.srs_num.proofs.Linear.{linear, mul_nonneg, mul_mono, mul_comm, mul_neg}
 use Rattle.srs_num.proofs.Ranges.{within_of}
-use Rattle.srs_num.proofs.Ring.{Expr, v, lit, ◌⊕◌, ◌⊖◌, ◌⊗◌, minus, evaluate, ring}
+use Rattle.srs_num.proofs.Ring.{v, lit, ◌⊕◌, ◌⊖◌, ◌⊗◌, ring}
 
 -- the quotient and the remainder
 pub euclid : (n d : ℤ) → pos 1 ≤ℤ d → (int_div_euclid n d *ℤ d +ℤ int_rem_euclid n d ≡ n) × (pos 0 ≤ℤ int_rem_euclid n d) × (int_rem_euclid n d <ℤ d)

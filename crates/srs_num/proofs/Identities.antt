@@ -1,10 +1,10 @@
 -- The identities of the plane that the proofs of the cells stand on.
-use Rattle.std.proofs.Common.{◌≡◌, ℕ, zero, suc, ◌+◌, List, [], ◌∷◌, ℤ, pos, negsuc, ◌+ℤ◌, ◌-ℤ◌, ◌*ℤ◌, neg_ℤ, refl, sym, ap, ◌∙◌, arith}
+use Rattle.std.proofs.Common.{◌≡◌, ℕ, ◌+◌, List, [], ◌∷◌, ℤ, pos, ◌+ℤ◌, ◌-ℤ◌, ◌*ℤ◌, neg_ℤ, refl, arith}
 use Rattle.srs_num.specs.Points.{LinearForm, Point, value, opposite}
 use Rattle.srs_num.specs.Lines.{meet, edge_form, plus}
 use Rattle.srs_num.proofs.Linear.{linear}
 use Rattle.srs_num.proofs.Combinations.{combine, mix, depth}
-use Rattle.srs_num.proofs.Ring.{Expr, v, lit, ◌⊕◌, ◌⊖◌, ◌⊗◌, minus, evaluate, ring}
+use Rattle.srs_num.proofs.Ring.{Expr, v, lit, ◌⊕◌, ◌⊖◌, ◌⊗◌, minus, ring}
 
 -- triples of expressions
 record Triple : Type 0 where

@@ -1,6 +1,7 @@
 // The command `certify`.
-ghost use Rattle.std.specs.Prelude.{◌≡◌, ◌↔◌, ◌≤◌, ◌+◌, ◌<◌, ◌^◌, IsTrue, [], ◌∷◌, List, ℕ, pos, IfOk, length, zero};
-ghost use Rattle.srs_plane.specs.Regions.{HasPoint};
+ghost use Rattle.std.specs.Prelude.{◌≡◌, ◌≤◌, ◌^◌, IsTrue, [], ◌∷◌, pos, ◌≤ℤ◌, ◌<ℤ◌, IfOk, length};
+ghost use Rattle.srs_num.specs.Points.{Point, value, IsFormSized};
+ghost use Rattle.srs_plane.specs.Regions.{IsIn};
 ghost use Rattle.srs_plane.specs.Polygons.{region_of};
 ghost use Rattle.srs_path.specs.Cutout.{Covers, Breaks};
 ghost use Rattle.srs_path.specs.declared.outcomes.Outcome.TheVariants.{Outside};
@@ -16,6 +17,7 @@ use srs_file::{FileErr, Outline, read_polygon};
 use srs_num::{Form, NoMemory};
 use srs_path::{Cycle, Limits, Outcome};
 use srs_print::put_certificate;
+use srs_plane::Vertex;
 use srs_text::{Bytes, Nums, Sink};
 use std::alloc::Global;
 
@@ -111,5 +113,36 @@ fn is_covered(cell: &Cell) -> bool
     ensures yes { IsTrue result → Covers cell.now cycle_one }
     ensures no { ¬ (IsTrue result) → Breaks cell.now cycle_one 0 }
 {
-    is_above(cell) && is_below(cell)
+    if !is_above(cell, &form(1, 1, 1)) {
+        return false;
+    }
+    is_below(cell, &form(1, 1, 0))
+}
+
+// The form of three small numbers.
+fn form(a: i64, b: i64, c: i64) -> Form
+    requires { IsFormSized (record { a = a; b = b; c = c }) }
+    ensures { result ≡ record { a = a; b = b; c = c } }
+{
+    match Form::new(a, b, c) {
+        Some(form) => form,
+        None => unreachable!(),
+    }
+}
+
+// Whether the form is at least 0 at each point of the cell.
+fn is_above(cell: &Cell, form: &Form) -> bool
+    ensures yes { IsTrue result → (r : Point) → IsIn cell.now r → pos 0 ≤ℤ value form.now r }
+    ensures no { ¬ (IsTrue result) → (r : Point) × IsIn cell.now r × (value form.now r <ℤ pos 0) }
+{
+    cell.low(form).num >= 0
+}
+
+// Whether the form is below 0 at each point of the cell.
+fn is_below(cell: &Cell, form: &Form) -> bool
+    ensures yes { IsTrue result → (r : Point) → IsIn cell.now r → value form.now r <ℤ pos 0 }
+    ensures no { ¬ (IsTrue result) → (r : Point) × IsIn cell.now r × (pos 0 ≤ℤ value form.now r) }
+{
+    let high = cell.high(form);
+    high.num < 0 || high.num == 0 && !high.attained
 }

@@ -1,4 +1,4 @@
-use Rattle.std.proofs.Common.{FitsSigned, ◌+ℤ◌, ◌≡◌, pos, ℤ, rules}
+use Rattle.std.proofs.Common.{FitsSigned, ◌+ℤ◌, ◌≡◌, pos, rules}
 use Rattle.std.specs.Int.{w128, int_div_euclid, int_rem_euclid}
 use Rattle.std.proofs.lemmas.Int.{to_z-of_z}
 use Rattle.srs_num.proofs.Floors.{ceiling_even, ceiling_odd, zero_bits, nonzero_bits, next_fits}

@@ -1,7 +1,7 @@
 use Rattle.std.specs.Int.{w128}
 use Rattle.std.proofs.Common.{FitsSigned, rules, ◌≡◌}
 use Rattle.std.proofs.lemmas.Int.{to_z-of_z}
-use Rattle.srs_num.specs.Floor.{floor_quotient, IsFloor}
+use Rattle.srs_num.specs.Floor.{floor_quotient}
 use Rattle.srs_num.proofs.Floors.{floor_is}
 use Rattle.srs_num.proofs.division.floor_div.Goals as goal
 

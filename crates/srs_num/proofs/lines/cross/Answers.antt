@@ -1,6 +1,5 @@
-use Rattle.std.proofs.Common.{◌≡◌, pos, ◌<ℤ◌, refl, arith}
+use Rattle.std.proofs.Common.{refl, arith}
 use Rattle.std.proofs.lemmas.Int.{ints}
-use Rattle.std.proofs.lemmas.Bool.{false≢true, true≢false}
 use Rattle.srs_num.proofs.Crossings.{turned_up, crossing_first, crossing_second, not_parallel, parallel, above_not, below_not, neither}
 use Rattle.srs_num.proofs.lines.cross.Goals as goal
 

@@ -1,4 +1,4 @@
-use Rattle.std.proofs.Common.{FitsSigned, w64, ◌≡◌, ◌*ℤ◌, ◌-ℤ◌, ◌^◌, ◌-◌, ◌∙◌, lit<, lit≤}
+use Rattle.std.proofs.Common.{FitsSigned, w64, ◌^◌, ◌-◌, ◌∙◌, lit<, lit≤}
 use Rattle.std.specs.Int.{w128}
 use Rattle.std.proofs.lemmas.Int.{to_z-of_z}
 use Rattle.srs_num.proofs.Ranges.{small_fits}

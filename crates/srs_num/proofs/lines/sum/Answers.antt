@@ -1,4 +1,4 @@
-use Rattle.std.proofs.Common.{◌^◌, ◌*◌, ◌-◌, ◌+◌, ◌≡◌, lit≤, arith}
+use Rattle.std.proofs.Common.{◌^◌, ◌*◌, ◌-◌, ◌+◌, arith}
 use Rattle.srs_num.specs.Points.{IsPointWithin}
 use Rattle.srs_num.specs.Lines.{plus}
 use Rattle.srs_num.proofs.Crossings.{sized_more}

@@ -1,4 +1,4 @@
-use Rattle.std.proofs.Common.{FitsSigned, w64, ◌≡◌, ◌*ℤ◌, ◌+ℤ◌, ◌-◌, ◌^◌, lit<, ℤ}
+use Rattle.std.proofs.Common.{FitsSigned, w64, ◌*ℤ◌, ◌+ℤ◌, ◌-◌, ◌^◌, lit<}
 use Rattle.std.specs.Int.{w128}
 use Rattle.std.proofs.lemmas.Int.{to_z-of_z}
 use Rattle.srs_num.specs.Points.{value}

@@ -1,4 +1,4 @@
-use Rattle.std.proofs.Common.{FitsSigned, w64, ◌-ℤ◌, ◌≡◌, ◌^◌, lit<, pos, ℤ}
+use Rattle.std.proofs.Common.{FitsSigned, w64, ◌-ℤ◌, ◌^◌, lit<, pos}
 use Rattle.std.proofs.lemmas.Int.{to_z-of_z}
 use Rattle.srs_num.proofs.Ranges.{small_fits, within_turned}
 use Rattle.srs_num.proofs.Identities.{opposite_is}

@@ -1,6 +1,5 @@
-use Rattle.std.proofs.Common.{FitsSigned, w64, ◌≡◌, ◌↔◌, ◌^◌, lit<, ℤ, pos, neg_ℤ, ◌*ℤ◌, ◌≤ℤ◌, IsTrue, refl}
+use Rattle.std.proofs.Common.{FitsSigned, w64, ◌^◌, lit<, refl}
 use Rattle.std.proofs.lemmas.Int.{to_z-of_z}
-use Rattle.srs_num.specs.Points.{IsNear}
 use Rattle.srs_num.proofs.Ranges.{small_fits}
 use Rattle.srs_num.proofs.points.Pt.near.Goals as goal
 
