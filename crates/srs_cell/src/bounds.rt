@@ -18,7 +18,8 @@ pub struct Bound {
 
 impl Cell {
     /// The infimum of the form over the points of the cell, and whether a point takes it. It takes no memory: it goes
-    /// over the at most 84 corners twice and over the at most 80 halves once.
+    /// over the at most 84 corners twice and over the at most 80 halves once. All points of a cell are near, which bounds
+    /// the value of a form of bounded numbers.
     pub fn low(&self, f: &Form) -> Bound
         ensures low { IsLow self.now f.now result }
         ensures sized { IsBoundSized result }
