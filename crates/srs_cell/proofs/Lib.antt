@@ -10,3 +10,4 @@ pub mod Areas
 pub mod Closed
 pub mod Least
 pub mod Infima
+pub mod OneSided

@@ -2,3 +2,4 @@ pub mod Hull
 pub mod Cutting
 pub mod Corners
 pub mod Bounds
+pub mod Sides

@@ -5,6 +5,8 @@ mod bounds;
 mod cells;
 mod corners;
 mod ends;
+mod sides;
 
 pub use bounds::Bound;
 pub use cells::Cell;
+pub use sides::{divides, is_above, is_below};
