@@ -11,3 +11,4 @@ pub mod Closed
 pub mod Least
 pub mod Infima
 pub mod LeastFloors
+pub mod OneSided
