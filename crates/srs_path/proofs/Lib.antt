@@ -1,3 +1,4 @@
+pub mod Padding
 pub mod Order
 pub mod Ranked
 pub mod WitnessLemmas
