@@ -1,10 +1,10 @@
 -- Within the box |x| <= 4, |y| <= 4 each line that has points on both sides has an end.
-use Rattle.std.proofs.Common.{◌≡◌, ℕ, List, [], ◌∷◌, ℤ, pos, negsuc, ◌+ℤ◌, ◌-ℤ◌, ◌*ℤ◌, neg_ℤ, ◌≤ℤ◌, ◌<ℤ◌, refl, sym, ap, ◌∙◌, arith, All, Contains}
+use Rattle.std.proofs.Common.{◌≡◌, ℕ, List, [], ◌∷◌, ◌++◌, ℤ, pos, negsuc, ◌+ℤ◌, ◌-ℤ◌, ◌*ℤ◌, neg_ℤ, ◌≤ℤ◌, ◌<ℤ◌, refl, sym, ap, ◌∙◌, arith, All, Contains, lit<}
 use Rattle.std.proofs.lemmas.Int.{by_lt_z}
 use Rattle.srs_num.specs.Points.{LinearForm, Point, value, opposite}
 use Rattle.srs_num.specs.Lines.{meet}
-use Rattle.srs_cell.specs.Cutting.{side, box}
-use Rattle.std.proofs.lemmas.List.Elements.{All-contains}
+use Rattle.srs_cell.specs.Corners.{side, box, boxed}
+use Rattle.std.proofs.lemmas.List.Elements.{All-contains, All-contains_itself, Contains-append_left}
 use Rattle.srs_num.proofs.Linear.{linear, mul_comm, mul_zero, mul_nonneg, mul_pos}
 use Rattle.srs_num.proofs.Ring.{Expr, v, lit, ◌⊕◌, ◌⊖◌, ◌⊗◌, minus, evaluate, ring}
 
@@ -14,6 +14,19 @@ pub record IsBoxed (hs : List LinearForm) : Type 0 where
   pub left : Contains hs (side (negsuc 0) (pos 0))
   pub top : Contains hs (side (pos 0) (pos 1))
   pub bottom : Contains hs (side (pos 0) (negsuc 0))
+
+pub box-IsBoxed : (hs : List LinearForm) → IsBoxed (box ++ hs)
+box-IsBoxed hs = record {
+    right = within (side (pos 1) (pos 0)) (itself 0 (side (pos 1) (pos 0)) (lit< tt));
+    top = within (side (pos 0) (pos 1)) (itself 1 (side (pos 1) (pos 0)) (lit< tt));
+    left = within (side (negsuc 0) (pos 0)) (itself 2 (side (pos 1) (pos 0)) (lit< tt));
+    bottom = within (side (pos 0) (negsuc 0)) (itself 3 (side (pos 1) (pos 0)) (lit< tt))
+  }
+  where
+    within : (h : LinearForm) → Contains box h → Contains (box ++ hs) h
+    within h k = Contains-append_left box hs h k
+    itself : All (Contains box) box
+    itself = All-contains_itself box
 
 meet-d_of : (a b : ℤ) (g : LinearForm) → (meet (side a b) g).d ≡ a *ℤ g.b -ℤ b *ℤ g.a
 unfolding meet side

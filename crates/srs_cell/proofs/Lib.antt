@@ -3,4 +3,6 @@ pub mod Section
 pub mod Extremes
 pub mod Keeping
 pub mod Boxed
-pub mod Clipped
+pub mod BoxHull
+pub mod Cuts
+pub mod Areas

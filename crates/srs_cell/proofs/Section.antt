@@ -1,12 +1,12 @@
 -- The part of a line within some halves: its two ends, found one half value a time.
-use Rattle.std.proofs.Common.{◌≡◌, ℕ, ◌+◌, ◌<◌, ◌≤◌, List, [], ◌∷◌, ◌++◌, length, get_or, ℤ, pos, negsuc, ◌+ℤ◌, ◌-ℤ◌, ◌*ℤ◌, neg_ℤ, ◌≤ℤ◌, ◌<ℤ◌, ◌⊎◌, inl, inr, All, Option, Some, None, MatchOption, refl, sym, ap, ◌∙◌, arith}
+use Rattle.std.proofs.Common.{◌≡◌, ℕ, ◌+◌, ◌^◌, ◌<◌, ◌≤◌, List, [], ◌∷◌, ◌++◌, length, get_or, ℤ, pos, negsuc, ◌+ℤ◌, ◌-ℤ◌, ◌*ℤ◌, neg_ℤ, ◌≤ℤ◌, ◌<ℤ◌, ◌⊎◌, inl, inr, All, Option, Some, None, MatchOption, refl, sym, ap, ◌∙◌, arith}
 use Rattle.std.proofs.lemmas.Int.{by_lt_z}
 use Rattle.std.proofs.lemmas.List.Elements.{All-nil, All-cons, All-head, All-tail, All-weaker, All-push, All-pop}
-use Rattle.srs_num.specs.Points.{LinearForm, Point, value, opposite}
+use Rattle.srs_num.specs.Points.{LinearForm, Point, value, opposite, IsPointWithin}
 use Rattle.srs_num.specs.Lines.{meet}
 use Rattle.srs_num.proofs.Combinations.{mix, depth}
 use Rattle.srs_cell.specs.Hull.{IsInHalves, IsAbove, IsHull}
-use Rattle.srs_cell.specs.Cutting.{IsEnd}
+use Rattle.srs_cell.specs.Cutting.{IsEnd, IsEndAt, IsFirstEnd}
 use Rattle.srs_num.proofs.Linear.{linear, mul_zero, mul_one, mul_neg, mul_comm, mul_nonneg, mul_pos, nonneg_from, pos_from, zero_from}
 use Rattle.srs_num.proofs.Identities.{value-meet_first, value-meet_second, cramer, along, value-depth, value-meet_depth, value-meet_turned, meet-d_turned, value-opposite, value-meet_parallel, value-meet_opposite, meet-d_opposite}
 use Rattle.srs_cell.proofs.Clip.{clip_whole, part_in_common}
@@ -161,27 +161,49 @@ clip_is_hull hs cs us ns e h g u n hull cover us_in ns_in gu gn u_up u_in n_low 
 pub none_more : (g : LinearForm) (hs : List LinearForm) (h : LinearForm) → All (λ h. (meet h g).d ≤ℤ pos 0) hs → (meet h g).d ≤ℤ pos 0 → All (λ h. (meet h g).d ≤ℤ pos 0) (hs ++ h ∷ [])
 none_more g hs h a k = All-push (λ h. (meet h g).d ≤ℤ pos 0) hs h a k
 
--- the state of the search
-abbrev pub EndSo : LinearForm → List LinearForm → Option LinearForm → Type 0
-EndSo g hs best = MatchOption best (All (λ h. (meet h g).d ≤ℤ pos 0) hs) (λ e. IsEnd g hs e)
+-- ---- the search with one more half
+below_not : (a : ℤ) → a ≤ℤ pos 0 → pos 0 <ℤ a → ⊥
+below_not a h k = omega (arith, linear)
 
-not_above : (a : ℤ) → (pos 0 <ℤ a → ⊥) → a ≤ℤ pos 0
-not_above a n = by_lt_z (pos 0) a (λ h. absurd (n h)) (λ h. h)
+stays : (g : LinearForm) (hs : List LinearForm) (h : LinearForm) (c : Point) → (pos 0 <ℤ (meet h g).d → pos 0 ≤ℤ value h c) → IsEndAt g hs c → IsEndAt g (hs ++ h ∷ []) c
+stays g hs h c k s = record {
+    half = s.half;
+    is_end = end_keep g hs s.half h s.is_end (λ up. let r : pos 0 ≤ℤ value h (meet s.half g) = rw (← s.crossing) (k up) in r);
+    crossing = s.crossing;
+    sized = s.sized
+  }
 
-not_below : (a : ℤ) → (a <ℤ pos 0 → ⊥) → pos 0 ≤ℤ a
-not_below a n = by_lt_z a (pos 0) (λ h. absurd (n h)) (λ h. h)
+-- it doesn't bound the line this way
+pub end_passed : (g : LinearForm) (hs : List LinearForm) (h : LinearForm) (end : Option Point) → (meet h g).d ≤ℤ pos 0 → IsFirstEnd g hs end → IsFirstEnd g (hs ++ h ∷ []) end
+end_passed g hs h None low s = none_more g hs h s low
+end_passed g hs h (Some c) low s = stays g hs h c (λ up. absurd (below_not _ low up)) s
 
-pub so_passed : (g : LinearForm) (hs : List LinearForm) (h : LinearForm) (best : Option LinearForm) → (pos 0 <ℤ (meet h g).d → ⊥) → EndSo g hs best → EndSo g (hs ++ h ∷ []) best
-so_passed g hs h None n s = none_more g hs h s (not_above _ n)
-so_passed g hs h (Some e) n s = end_keep g hs e h s (λ up. absurd (n up))
+-- the end is in it
+pub end_kept : (g : LinearForm) (hs : List LinearForm) (h : LinearForm) (end : Option Point) (c : Point) → end ≡ Some c → pos 0 ≤ℤ value h c → IsFirstEnd g hs end → IsEndAt g (hs ++ h ∷ []) c
+end_kept g hs h end c is high s = stays g hs h c (λ up. high) (rw is at s)
 
-pub so_first : (g : LinearForm) (hs : List LinearForm) (h : LinearForm) (best : Option LinearForm) → best ≡ None → EndSo g hs best → pos 0 <ℤ (meet h g).d → EndSo g (hs ++ h ∷ []) (Some h)
-so_first g hs h None e s up = end_first g hs h s up
-so_first g hs h (Some x) e s up = cc
+-- it is the first that bounds the line this way
+pub end_begun : (g : LinearForm) (hs : List LinearForm) (h : LinearForm) (end : Option Point) (x : Point) → end ≡ None
+    → pos 0 <ℤ (meet h g).d → x ≡ meet h g → IsPointWithin (2 ^ 77) x → IsFirstEnd g hs end → IsEndAt g (hs ++ h ∷ []) x
+end_begun g hs h None x is up crossing sized s = record { half = h; is_end = end_first g hs h s up; crossing = crossing; sized = sized }
+end_begun g hs h (Some c) x is up crossing sized s = cc
 
-pub so_swapped : (g : LinearForm) (hs : List LinearForm) (e h : LinearForm) (best : Option LinearForm) → best ≡ Some e → EndSo g hs best → pos 0 <ℤ (meet h g).d → value h (meet e g) <ℤ pos 0 → EndSo g (hs ++ h ∷ []) (Some h)
-so_swapped g hs e h best is s up low = end_swap g hs e h (rw is at s) up low
+-- it cuts the end off
+pub end_moved : (g : LinearForm) (hs : List LinearForm) (h : LinearForm) (end : Option Point) (c x : Point) → end ≡ Some c → value h c <ℤ pos 0
+    → pos 0 <ℤ (meet h g).d → x ≡ meet h g → IsPointWithin (2 ^ 77) x → IsFirstEnd g hs end → IsEndAt g (hs ++ h ∷ []) x
+end_moved g hs h end c x is low up crossing sized s =
+    let old : IsEndAt g hs c = rw is at s in
+    let lower : value h (meet old.half g) <ℤ pos 0 = rw (← old.crossing) low in
+    record { half = h; is_end = end_swap g hs old.half h old.is_end up lower; crossing = crossing; sized = sized }
 
-pub so_kept : (g : LinearForm) (hs : List LinearForm) (e h : LinearForm) (best : Option LinearForm) → best ≡ Some e → EndSo g hs best → (value h (meet e g) <ℤ pos 0 → ⊥) → EndSo g (hs ++ h ∷ []) (Some e)
-so_kept g hs e h best is s n = end_keep g hs e h (rw is at s) (λ up. not_below _ n)
+pub at_most_by : (a b : ℤ) → a ≡ b → a ≤ℤ pos 0 → b ≤ℤ pos 0
+at_most_by a b e h = omega (arith, linear)
 
+pub at_least_by : (a b : ℤ) → a ≡ b → pos 0 ≤ℤ a → pos 0 ≤ℤ b
+at_least_by a b e h = omega (arith, linear)
+
+pub below_by : (a b : ℤ) → a ≡ b → a <ℤ pos 0 → b <ℤ pos 0
+below_by a b e h = omega (arith, linear)
+
+pub above_by : (a b : ℤ) → a ≡ b → pos 0 <ℤ a → pos 0 <ℤ b
+above_by a b e h = omega (arith, linear)

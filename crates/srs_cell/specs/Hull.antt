@@ -1,5 +1,5 @@
 -- What the corners of a cell tell of its points.
-use Rattle.std.specs.Prelude.{List, [], ◌∷◌, ◌++◌, map, All, pos, negsuc, ◌≤ℤ◌, ◌<ℤ◌}
+use Rattle.std.specs.Prelude.{List, All, pos, ◌≤ℤ◌, ◌<ℤ◌}
 use Rattle.srs_num.specs.Points.{Point, LinearForm, value}
 
 -- z has d >= 1, and each of the forms is at least 0 there
@@ -10,6 +10,10 @@ pub record IsInHalves (hs : List LinearForm) (z : Point) : Type 0 where
 -- the form is at least 0 at each of the points
 abbrev pub IsAbove : LinearForm → List Point → Type 0
 IsAbove f cs = All (λ c. pos 0 ≤ℤ value f c) cs
+
+-- the form is below 0 at each of the points
+abbrev pub IsBelow : LinearForm → List Point → Type 0
+IsBelow f cs = All (λ c. value f c <ℤ pos 0) cs
 
 -- the corners are in the halves, and a form that is at least 0 at each corner is at least 0 at each point there
 pub record IsHull (hs : List LinearForm) (cs : List Point) : Type 0 where

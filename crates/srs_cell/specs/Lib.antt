@@ -1,2 +1,3 @@
 pub mod Hull
 pub mod Cutting
+pub mod Corners

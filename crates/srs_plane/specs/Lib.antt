@@ -1,2 +1,5 @@
 pub mod Regions
+pub mod Bounded
 pub mod Polygons
+pub mod Placed
+pub mod Convexity

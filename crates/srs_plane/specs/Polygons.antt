@@ -1,5 +1,5 @@
 -- Convex polygons by their vertices, in the order in which the inside stands to the left of each edge.
-use Rattle.std.specs.Prelude.{◌≡◌, ◌≢◌, ⊤, ℕ, ◌+◌, ◌<◌, ◌≤◌, ◌%◌, List, length, map, slice_index_or, ℤ, pos, ◌≤ℤ◌, ◌<ℤ◌}
+use Rattle.std.specs.Prelude.{◌≢◌, ⊤, ℕ, ◌+◌, ◌<◌, ◌≤◌, ◌%◌, List, length, map, slice_index_or, pos, ◌≤ℤ◌, ◌<ℤ◌}
 use Rattle.std.specs.List.{range_with_len}
 use Rattle.srs_num.specs.Points.{Point, LinearForm, value, IsNear}
 use Rattle.srs_num.specs.Lines.{edge_form}
@@ -40,12 +40,15 @@ TurnsLeft vs i = (j : ℕ) → IsOffEdge vs i j → pos 0 <ℤ value (edge_at vs
 abbrev pub TurnsWrong : List Vertex → ℕ → Type 0
 TurnsWrong vs i = (j : ℕ) × IsOffEdge vs i j × (value (edge_at vs i) (point_of (vertex_at vs j)) ≤ℤ pos 0)
 
+-- 3 to 16 vertices
 abbrev pub IsCounted : List Vertex → Type 0
 IsCounted vs = (3 ≤ length vs) × (length vs ≤ 16)
 
+-- the first n vertices have d from 1 to 65536
 abbrev pub AreShallow : List Vertex → ℕ → Type 0
 AreShallow vs n = (k : ℕ) → k < n → IsShallow (vertex_at vs k)
 
+-- the first n vertices have |x|, |y| at most 4
 abbrev pub AreNear : List Vertex → ℕ → Type 0
 AreNear vs n = (k : ℕ) → k < n → IsNear (point_of (vertex_at vs k))
 

@@ -1,5 +1,5 @@
 -- A region as a set of points, and what it means that a form divides it.
-use Rattle.std.specs.Prelude.{List, [], ◌∷◌, ◌++◌, ℤ, pos, ◌≤ℤ◌, ◌<ℤ◌}
+use Rattle.std.specs.Prelude.{List, ℤ, pos, ◌≤ℤ◌, ◌<ℤ◌}
 use Rattle.std.specs.List.{AllByRecursion}
 use Rattle.srs_num.specs.Points.{Point, IsPoint, LinearForm, value, opposite}
 use Rattle.srs_plane.specs.declared.halves.Kind.{Kind}

@@ -1,6 +1,9 @@
-// Halves and regions.
-use srs_num::Form;
-use std::marker::Model;
+// Halves of the plane.
+ghost use Rattle.std.specs.Prelude.{◌≡◌, ◌+◌, ◌↔◌, IsTrue};
+ghost use Rattle.srs_plane.specs.Regions.{IsInHalf};
+
+use srs_num::{Form, Pt, Steps};
+use std::sync::ledger::Ledger;
 
 /// Whether the line that bounds a half belongs to it.
 #[derive(Clone, Copy, Debug, PartialEq, Eq, Drop)]
@@ -18,17 +21,16 @@ pub struct Half {
     pub kind: Kind,
 }
 
-/// A convex region of 3 to 80 halves, all of whose points have `|x| <= 4` and `|y| <= 4`.
-#[derive(Drop)]
-pub struct Region {
-    halves: Vec<Half>,
-}
-
-impl Model for Region {
-    ghost use Rattle.std.specs.Prelude.{List, length, ◌≤◌};
-    ghost use Rattle.srs_plane.specs.declared.halves.Half.{Half};
-
-    ghost Value = { List Half };
-
-    ghost view = { λ s. s.halves.items };
+impl Half {
+    /// Whether the point is in the half. It is one step.
+    pub fn holds<L: Ledger>(&self, r: &Pt, steps: &mut Steps<L>) -> bool
+        ensures held { IsTrue result ↔ IsInHalf self.now r.now }
+        ensures one_step { steps.new ≡ steps.old + 1 }
+    {
+        let value = self.form.at(r, steps);
+        match self.kind {
+            Kind::Ge => value >= 0,
+            Kind::Gt => value > 0,
+        }
+    }
 }

@@ -2,7 +2,13 @@
 #![tactic(auto)]
 
 mod halves;
+mod laws;
 mod polygons;
+mod regions;
+mod vertices;
 
-pub use halves::{Half, Kind, Region};
-pub use polygons::{PolyErr, Vertex};
+pub use halves::{Half, Kind};
+pub use laws::convexity;
+pub use polygons::{PolyErr, Vertex, polygon};
+pub use regions::Region;
+pub use vertices::Vertices;

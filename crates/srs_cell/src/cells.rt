@@ -1,0 +1,106 @@
+// Cells, and how they are made.
+ghost use Rattle.std.specs.Prelude.{◌≡◌, ◌↔◌, IsTrue, IfOk, MatchOption, All};
+ghost use Rattle.srs_plane.specs.Regions.{IsIn, IsInHalf, HasPoint};
+ghost use Rattle.srs_cell.specs.Corners.{AreCorners};
+
+use crate::corners::{copied, corners_of};
+use srs_num::{Corner, NoMemory, sum};
+use srs_plane::{Half, Kind, Region};
+use std::alloc::Global;
+use std::marker::Model;
+
+/// A region that has a point, with its corners.
+#[derive(Drop)]
+pub struct Cell {
+    region: Region,
+    corners: Vec<Corner>,
+    sample: Corner,
+}
+
+impl Model for Cell {
+    ghost use Rattle.std.specs.Prelude.{List};
+    ghost use Rattle.srs_plane.specs.declared.halves.Half.{Half};
+    ghost use Rattle.srs_cell.specs.Corners.{IsCell};
+
+    ghost Value = { List Half };
+
+    ghost view = { λ s. s.region };
+
+    ghost invariant = { λ s. IsCell s.region s.corners.items s.sample };
+}
+
+impl Cell {
+    /// The cell of the region. `None` exactly where the region has no point.
+    pub fn of(alloc: Global, region: Region) -> Result<Option<Cell>, NoMemory>
+        ensures { IfOk result (λ found. MatchOption found (HasPoint region → ⊥) (λ cell. cell ≡ region)) }
+    {
+        let Some(corners) = corners_of(alloc, &region)? else {
+            return Ok(None);
+        };
+        let sample = sum(&corners);
+        if !is_inside(&region, &sample) {
+            return Ok(None);
+        }
+        Ok(Some(Cell {
+            region,
+            corners,
+            sample,
+        }))
+    }
+
+    /// The region.
+    pub fn region(&self) -> &Region
+        ensures value { result.now ≡ self.now }
+        ensures has_point { HasPoint self.now }
+    {
+        &self.region
+    }
+
+    /// A point of the cell.
+    pub fn sample(&self) -> Corner
+        ensures { IsIn self.now result }
+    {
+        self.sample
+    }
+
+    /// An equal cell.
+    pub fn copy(&self, alloc: Global) -> Result<Cell, NoMemory>
+        ensures { IfOk result (λ cell. cell ≡ self.now) }
+    {
+        Ok(Cell {
+            region: self.region.copy(alloc)?,
+            corners: copied(alloc, &self.corners)?,
+            sample: self.sample,
+        })
+    }
+
+    // The corners, of which there are at most 84.
+    pub(crate) fn corners(&self) -> &[Corner]
+        ensures { AreCorners self.now result.now }
+    {
+        &self.corners
+    }
+}
+
+// Whether the corner is in the half.
+fn is_in_half(half: &Half, corner: &Corner) -> bool
+    ensures { IsTrue result ↔ IsInHalf half.now corner.now }
+{
+    let value = half.form.at_corner(corner);
+    match half.kind {
+        Kind::Ge => value >= 0,
+        Kind::Gt => value > 0,
+    }
+}
+
+// Whether the corner is in each half of the region.
+pub(crate) fn is_inside(region: &Region, corner: &Corner) -> bool
+    ensures { IsTrue result ↔ All (λ h. IsInHalf h corner.now) region.now }
+{
+    for i in 0..region.len() {
+        if !is_in_half(&region.half(i), corner) {
+            return false;
+        }
+    }
+    true
+}

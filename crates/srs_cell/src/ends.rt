@@ -1,0 +1,58 @@
+// The ends of the part of a line that is in a region.
+ghost use Rattle.std.specs.Prelude.{◌≡◌, ◌<◌, ◌≤◌, List, [], ◌∷◌, ◌++◌, length, take};
+ghost use Rattle.srs_num.specs.Points.{LinearForm, IsWithin};
+ghost use Rattle.srs_cell.specs.Corners.{side, box, boxed};
+ghost use Rattle.srs_cell.specs.Cutting.{IsFirstEnd};
+
+use srs_num::{Corner, Form, crossing_of, turn};
+use srs_plane::Region;
+
+// One side of the box |x| <= 4, |y| <= 4.
+pub(crate) fn side(a: i64, b: i64) -> Form
+    requires a { IsWithin 1 a }
+    requires b { IsWithin 1 b }
+    ensures { result ≡ side a b }
+{
+    let Some(form) = Form::new(a, b, 4) else {
+        unreachable!()
+    };
+    form
+}
+
+// The first end of the line within some halves and one more of them, where `end` is the one without it.
+fn nearer(end: Option<Corner>, half: &Form, line: &Form) -> Option<Corner>
+    ensures { (hs : List LinearForm) → IsFirstEnd line.now hs end → IsFirstEnd line.now (hs ++ half.now ∷ []) result }
+{
+    if turn(half, line) <= 0 {
+        return end;
+    }
+    if let Some(corner) = end {
+        if half.at_corner(&corner) >= 0 {
+            return end;
+        }
+    }
+    Some(crossing_of(half, line))
+}
+
+// The first end of the line within the box.
+fn box_end(line: &Form) -> Option<Corner>
+    ensures { IsFirstEnd line.now box result }
+{
+    let right = nearer(None, &side(1, 0), line);
+    let top = nearer(right, &side(0, 1), line);
+    let left = nearer(top, &side(-1, 0), line);
+    nearer(left, &side(0, -1), line)
+}
+
+// The first end of the line within the box and the first `count` halves of the region. That of the opposite form is the other end.
+pub(crate) fn line_end(region: &Region, count: u32, line: &Form) -> Option<Corner>
+    requires { count ≤ length region.now }
+    ensures { IsFirstEnd line.now (boxed (take count region.now)) result }
+{
+    let mut end = box_end(line);
+    for i in 0..count {
+        let half = region.half(i);
+        end = nearer(end, &half.form, line);
+    }
+    end
+}
