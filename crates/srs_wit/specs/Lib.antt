@@ -1,0 +1,5 @@
+pub mod Moves
+pub mod Least
+pub mod Listing
+pub mod Spans
+pub mod Search
