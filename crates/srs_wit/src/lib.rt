@@ -8,5 +8,6 @@ pub mod laws;
 mod sets;
 mod spans;
 
+pub use cells::{Cell, Span};
 pub use closure::witnesses;
 pub use sets::{Big, WitErr, WitSet};
