@@ -1,5 +1,5 @@
 -- The halves of a region as forms, one half at a time, and its points.
-use Rattle.std.proofs.Common.{◌≡◌, ℕ, ◌+◌, ◌^◌, ◌<◌, ◌≤◌, List, [], ◌∷◌, ◌++◌, map, length, length-append, take, take_all, get_or, slice_get, ℤ, pos, negsuc, neg_ℤ, ◌+ℤ◌, ◌*ℤ◌, ◌≤ℤ◌, ◌<ℤ◌, All, Some, refl, sym, ap, ◌∙◌, arith}
+use Rattle.std.proofs.Common.{◌≡◌, ℕ, ◌+◌, ◌^◌, ◌<◌, ◌≤◌, List, [], ◌∷◌, ◌++◌, map, length, length-append, take, take_all, get_or, slice_get, ℤ, pos, negsuc, ◌+ℤ◌, ◌≤ℤ◌, ◌<ℤ◌, All, Some, ap, ◌∙◌, arith}
 use Rattle.std.specs.List.{AllByRecursion}
 use Rattle.std.proofs.lemmas.Option.{get_or_from_slice_get}
 use Rattle.std.proofs.lemmas.List.{take_more, map-append}
@@ -11,7 +11,7 @@ use Rattle.srs_plane.specs.declared.halves.Half.{Half}
 use Rattle.srs_plane.specs.declared.halves.Kind.{Kind}
 use Rattle.srs_plane.specs.declared.halves.Kind.TheVariants.{Ge, Gt}
 use Rattle.srs_plane.specs.Regions.{Area, Asks, IsInHalf, IsIn, HasPoint}
-use Rattle.srs_cell.specs.Hull.{IsInHalves, IsAbove, IsBelow, IsHull}
+use Rattle.srs_cell.specs.Hull.{IsInHalves, IsAbove, IsBelow}
 use Rattle.srs_cell.specs.Corners.{side, box, boxed, AreCorners}
 use Rattle.srs_cell.specs.Cutting.{IsPart}
 use Rattle.srs_num.proofs.Combinations.{depth}
@@ -33,7 +33,7 @@ all_there P xs i x h e a = let k = a i x h in rw (get_or_from_slice_get xs i x x
 pub all_done : {X : Type 0} (P : X → Type 0) (xs : List X) (i : ℕ) → length xs ≤ i → All P (take i xs) → All P xs
 all_done P xs i h a = rw (take_all i xs h) at a
 
-all_by_recursion : {X : Type 0} (P : X → Type 0) (xs : List X) → All P xs → AllByRecursion P xs
+pub all_by_recursion : {X : Type 0} (P : X → Type 0) (xs : List X) → All P xs → AllByRecursion P xs
 all_by_recursion P [] a = tt
 all_by_recursion P (x ∷ xs) a = (All-head P x xs a, all_by_recursion P xs (All-tail P x xs a))
 
@@ -72,9 +72,9 @@ boxed_box P R a =
     let a2 = All-tail P t (l ∷ b ∷ fs) a1 in
     let a3 = All-tail P l (b ∷ fs) a2 in
     All-cons P r (t ∷ l ∷ b ∷ []) (All-head P r (t ∷ l ∷ b ∷ fs) a)
-      (All-cons P t (l ∷ b ∷ []) (All-head P t (l ∷ b ∷ fs) a1)
-        (All-cons P l (b ∷ []) (All-head P l (b ∷ fs) a2)
-          (All-cons P b [] (All-head P b fs a3) (All-nil P))))
+    (All-cons P t (l ∷ b ∷ []) (All-head P t (l ∷ b ∷ fs) a1)
+    (All-cons P l (b ∷ []) (All-head P l (b ∷ fs) a2)
+    (All-cons P b [] (All-head P b fs a3) (All-nil P))))
 
 -- a point of all the halves is one of the first of them
 pub in_first : (R : Area) (i : ℕ) (z : Point) → IsInHalves (boxed R) z → IsInHalves (boxed (take i R)) z
@@ -82,11 +82,11 @@ in_first R i z z_in =
     let P : LinearForm → Type 0 = λ h. pos 0 ≤ℤ value h z in
     record {
       deep = z_in.deep;
-      each = boxed_all P (take i R) (boxed_box P R z_in.each) (All-take (λ h. P h.form) i R (boxed_halves P R z_in.each))
+      each = boxed_all P (take i R) (boxed_box P R z_in.each) (All-take (λ h. P h.form) i R (boxed_halves P R z_in.each));
     }
 
 -- ---- points of the region
-asked : (k : Kind) (v : ℤ) → Asks k v → pos 0 ≤ℤ v
+pub asked : (k : Kind) (v : ℤ) → Asks k v → pos 0 ≤ℤ v
 asked Ge v h = h
 asked Gt v h = above v h
   where
@@ -99,7 +99,7 @@ in_boxed R z i n =
     let Q : Half → Type 0 = λ h. IsInHalf h z in
     record {
       deep = deeper z.d i.is_point;
-      each = boxed_all P R (near_in_box z n) (All-weaker Q (λ h. P h.form) (λ h k. asked h.kind (value h.form z) k) R (All-from_recursion Q R i.halves))
+      each = boxed_all P R (near_in_box z n) (All-weaker Q (λ h. P h.form) (λ h k. asked h.kind (value h.form z) k) R (All-from_recursion Q R i.halves));
     }
   where
     deeper : (d : ℤ) → pos 1 ≤ℤ d → pos 0 <ℤ d
@@ -113,7 +113,7 @@ sum_in_halves hs (c ∷ cs) a some =
     let rest = All-tail (IsInHalves hs) c cs a in
     record {
       deep = deeper _ _ _ _ (value-sum depth c cs) (value-depth c) (value-depth (sum_of (c ∷ cs))) c_in.deep (sum_above depth cs (λ j d lt. above_depth (get_or cs j d) (rest j d lt)));
-      each = λ i d lt. sum_above (get_or hs i d) (c ∷ cs) (λ j e lt'. (a j e lt').each i d lt)
+      each = λ i d lt. sum_above (get_or hs i d) (c ∷ cs) (λ j e lt'. (a j e lt').each i d lt);
     }
   where
     above_depth : (c : Point) → IsInHalves hs c → pos 0 ≤ℤ value depth c
@@ -121,6 +121,7 @@ sum_in_halves hs (c ∷ cs) a some =
       where
         from_deep : (a b : ℤ) → a ≡ b → pos 0 <ℤ b → pos 0 ≤ℤ a
         from_deep a b e h = omega (arith, linear)
+
     deeper : (s a r d : ℤ) {e : ℤ} → s ≡ a +ℤ r → a ≡ d → s ≡ e → pos 0 <ℤ d → pos 0 ≤ℤ r → pos 0 <ℤ e
     deeper s a r d e f g h k = omega (arith, linear)
 
@@ -139,17 +140,17 @@ sum_in_each R cs z k z_in near =
     let s_each = boxed_halves (At s) R s_boxed.each in
     let z_each = All-from_recursion (λ h. IsInHalf h z) R z_in.halves in
     λ i d lt.
-      let h = get_or R i d in
-      asks_by h.kind (value h.form s) (value h.form z) (s_each i d lt)
-        (λ up. sum_strict hs cs h.form z k.hull (λ j e lt'. boxed_halves (At (get_or cs j e)) R (k.hull.inside j e lt').each i d lt) z_boxed up)
-        (z_each i d lt)
+    let h = get_or R i d in
+    asks_by h.kind (value h.form s) (value h.form z) (s_each i d lt)
+    (λ up. sum_strict hs cs h.form z k.hull (λ j e lt'. boxed_halves (At (get_or cs j e)) R (k.hull.inside j e lt').each i d lt) z_boxed up)
+    (z_each i d lt)
 
 -- ---- what is known once all halves have cut the corners
 pub sum_inside : (R : Area) (cs : List Point) → AreCorners R cs → All (λ h. IsInHalf h (sum_of cs)) R → IsIn R (sum_of cs)
 sum_inside R cs k a = record {
-    is_point = point_of _ (sum_in_halves (boxed R) cs k.hull.inside k.some).deep;
-    halves = all_by_recursion (λ h. IsInHalf h (sum_of cs)) R a
-  }
+  is_point = point_of _ (sum_in_halves (boxed R) cs k.hull.inside k.some).deep;
+  halves = all_by_recursion (λ h. IsInHalf h (sum_of cs)) R a;
+}
   where
     point_of : (d : ℤ) → pos 0 <ℤ d → pos 1 ≤ℤ d
     point_of d h = omega (arith, linear)
@@ -164,20 +165,20 @@ no_corner R none near p = none p.0 (in_boxed R p.0 p.1 (near p.0 p.1))
 pub corners_whole : (R : Area) (i : ℕ) (h : Half) (cs : List Point) → i < length R → slice_get R i ≡ Some h
     → AreCorners (take i R) cs → IsAbove h.form cs → AreCorners (take (i + 1) R) cs
 corners_whole R i h cs lt e k up = record {
-    hull = rw (boxed_more R i h lt e) (whole_left (boxed (take i R)) cs h.form k.hull up);
-    sized = k.sized;
-    some = k.some;
-    few = let old = k.few in rw (take_next R i h lt e) (omega (arith, length-append (take i R) (h ∷ [])))
-  }
+  hull = rw (boxed_more R i h lt e) (whole_left (boxed (take i R)) cs h.form k.hull up);
+  sized = k.sized;
+  some = k.some;
+  few = let old = k.few in rw (take_next R i h lt e) (omega (arith, length-append (take i R) (h ∷ [])));
+}
 
 pub corners_part : (R : Area) (i : ℕ) (h : Half) (cs us : List Point) → i < length R → slice_get R i ≡ Some h
     → AreCorners (take i R) cs → IsPart (boxed (take i R)) cs h.form us → AreCorners (take (i + 1) R) us
 corners_part R i h cs us lt e k p = record {
-    hull = rw (boxed_more R i h lt e) p.hull;
-    sized = p.sized;
-    some = p.some;
-    few = let old = k.few in let new = p.few in rw (take_next R i h lt e) (omega (arith, length-append (take i R) (h ∷ [])))
-  }
+  hull = rw (boxed_more R i h lt e) p.hull;
+  sized = p.sized;
+  some = p.some;
+  few = let old = k.few in let new = p.few in rw (take_next R i h lt e) (omega (arith, length-append (take i R) (h ∷ [])));
+}
 
 pub corners_nothing : (R : Area) (i : ℕ) (h : Half) (cs : List Point) → i < length R → slice_get R i ≡ Some h
     → AreCorners (take i R) cs → IsBelow h.form cs → (z : Point) → IsInHalves (boxed R) z → ⊥
@@ -193,7 +194,7 @@ box_start w x y z k ws xs ys zs =
       hull = box_hull w x y z k;
       sized = All-cons W w (x ∷ y ∷ z ∷ []) ws (All-cons W x (y ∷ z ∷ []) xs (All-cons W y (z ∷ []) ys (All-cons W z [] zs (All-nil W))));
       some = omega arith;
-      few = omega arith
+      few = omega arith;
     }
 
 pub corners_done : (R : Area) (i : ℕ) (cs : List Point) → length R ≤ i → AreCorners (take i R) cs → AreCorners R cs

@@ -1,12 +1,12 @@
 -- Within the box |x| <= 4, |y| <= 4 each line that has points on both sides has an end.
-use Rattle.std.proofs.Common.{◌≡◌, ℕ, List, [], ◌∷◌, ◌++◌, ℤ, pos, negsuc, ◌+ℤ◌, ◌-ℤ◌, ◌*ℤ◌, neg_ℤ, ◌≤ℤ◌, ◌<ℤ◌, refl, sym, ap, ◌∙◌, arith, All, Contains, lit<}
+use Rattle.std.proofs.Common.{◌≡◌, List, [], ◌∷◌, ◌++◌, ℤ, pos, negsuc, ◌+ℤ◌, ◌-ℤ◌, ◌*ℤ◌, neg_ℤ, ◌≤ℤ◌, ◌<ℤ◌, refl, ap, ◌∙◌, arith, All, Contains, lit<}
 use Rattle.std.proofs.lemmas.Int.{by_lt_z}
 use Rattle.srs_num.specs.Points.{LinearForm, Point, value, opposite}
 use Rattle.srs_num.specs.Lines.{meet}
-use Rattle.srs_cell.specs.Corners.{side, box, boxed}
+use Rattle.srs_cell.specs.Corners.{side, box}
 use Rattle.std.proofs.lemmas.List.Elements.{All-contains, All-contains_itself, Contains-append_left}
-use Rattle.srs_num.proofs.Linear.{linear, mul_comm, mul_zero, mul_nonneg, mul_pos}
-use Rattle.srs_num.proofs.Ring.{Expr, v, lit, ◌⊕◌, ◌⊖◌, ◌⊗◌, minus, evaluate, ring}
+use Rattle.srs_num.proofs.Linear.{linear, mul_nonneg, mul_pos}
+use Rattle.srs_num.proofs.Ring.{v, lit, ◌⊕◌, ◌⊖◌, ◌⊗◌, minus, ring}
 
 -- the box is among the halves
 pub record IsBoxed (hs : List LinearForm) : Type 0 where
@@ -17,14 +17,15 @@ pub record IsBoxed (hs : List LinearForm) : Type 0 where
 
 pub box-IsBoxed : (hs : List LinearForm) → IsBoxed (box ++ hs)
 box-IsBoxed hs = record {
-    right = within (side (pos 1) (pos 0)) (itself 0 (side (pos 1) (pos 0)) (lit< tt));
-    top = within (side (pos 0) (pos 1)) (itself 1 (side (pos 1) (pos 0)) (lit< tt));
-    left = within (side (negsuc 0) (pos 0)) (itself 2 (side (pos 1) (pos 0)) (lit< tt));
-    bottom = within (side (pos 0) (negsuc 0)) (itself 3 (side (pos 1) (pos 0)) (lit< tt))
-  }
+  right = within (side (pos 1) (pos 0)) (itself 0 (side (pos 1) (pos 0)) (lit< tt));
+  top = within (side (pos 0) (pos 1)) (itself 1 (side (pos 1) (pos 0)) (lit< tt));
+  left = within (side (negsuc 0) (pos 0)) (itself 2 (side (pos 1) (pos 0)) (lit< tt));
+  bottom = within (side (pos 0) (negsuc 0)) (itself 3 (side (pos 1) (pos 0)) (lit< tt));
+}
   where
     within : (h : LinearForm) → Contains box h → Contains (box ++ hs) h
     within h k = Contains-append_left box hs h k
+
     itself : All (Contains box) box
     itself = All-contains_itself box
 
@@ -44,19 +45,20 @@ pub box_has_end : (g : LinearForm) (u n : Point) → pos 0 ≤ℤ value g u → 
     → ⊥
 box_has_end g u n gu gn ud nd r l t b =
     let gb = pinned g.b _ _ (meet-d_of (pos 1) (pos 0) g ∙ ring (g.b ∷ g.a ∷ []) (lit (pos 1) ⊗ v 0 ⊖ lit (pos 0) ⊗ v 1) (v 0) tt) r
-      (meet-d_of (negsuc 0) (pos 0) g ∙ ring (g.b ∷ g.a ∷ []) (lit (negsuc 0) ⊗ v 0 ⊖ lit (pos 0) ⊗ v 1) (minus (v 0)) tt) l in
+    (meet-d_of (negsuc 0) (pos 0) g ∙ ring (g.b ∷ g.a ∷ []) (lit (negsuc 0) ⊗ v 0 ⊖ lit (pos 0) ⊗ v 1) (minus (v 0)) tt) l in
     let ga = pinned g.a _ _ (meet-d_of (pos 0) (negsuc 0) g ∙ ring (g.b ∷ g.a ∷ []) (lit (pos 0) ⊗ v 0 ⊖ lit (negsuc 0) ⊗ v 1) (v 1) tt) b
-      (meet-d_of (pos 0) (pos 1) g ∙ ring (g.b ∷ g.a ∷ []) (lit (pos 0) ⊗ v 0 ⊖ lit (pos 1) ⊗ v 1) (minus (v 1)) tt) t in
+    (meet-d_of (pos 0) (pos 1) g ∙ ring (g.b ∷ g.a ∷ []) (lit (pos 0) ⊗ v 0 ⊖ lit (pos 1) ⊗ v 1) (minus (v 1)) tt) t in
     both_ways g.c u.d n.d _ _ (value-flat g u ga gb) (value-flat g n ga gb) gu gn ud nd
   where
     pinned : (a x y : ℤ) → x ≡ a → x ≤ℤ pos 0 → y ≡ neg_ℤ a → y ≤ℤ pos 0 → a ≡ pos 0
     pinned a x y e h f k = omega (arith, linear)
+
     both_ways : (c d d' x y : ℤ) → x ≡ c *ℤ d → y ≡ c *ℤ d' → pos 0 ≤ℤ x → y <ℤ pos 0 → pos 0 <ℤ d → pos 0 <ℤ d' → ⊥
     both_ways c d d' x y e f h k l m =
         by_lt_z c (pos 0)
-          (λ low. let p = mul_pos (neg_ℤ c) d (omega (arith, linear)) l in
-            let q = ring (c ∷ d ∷ []) (minus (v 0) ⊗ v 1) (minus (v 0 ⊗ v 1)) tt in omega (arith, linear))
-          (λ high. let p = mul_nonneg c d' high (omega (arith, linear)) in omega (arith, linear))
+        (λ low. let p = mul_pos (neg_ℤ c) d (omega (arith, linear)) l in
+        let q = ring (c ∷ d ∷ []) (minus (v 0) ⊗ v 1) (minus (v 0 ⊗ v 1)) tt in omega (arith, linear))
+        (λ high. let p = mul_nonneg c d' high (omega (arith, linear)) in omega (arith, linear))
 
 -- so the search finds an end
 pub boxed_end : (hs : List LinearForm) (g : LinearForm) (u n : Point) → IsBoxed hs → pos 0 ≤ℤ value g u → value g n <ℤ pos 0 → pos 0 <ℤ u.d → pos 0 <ℤ n.d
@@ -77,11 +79,10 @@ pub boxed_end_opposite : (hs : List LinearForm) (g : LinearForm) (u n : Point) �
 boxed_end_opposite hs g u n box gu gn ud nd none =
     let P : LinearForm → Type 0 = λ h. (meet h (opposite g)).d ≤ℤ pos 0 in
     box_has_end g u n gu gn ud nd
-      (carried _ _ (turned_side (negsuc 0) (pos 0) (pos 1) (pos 0) g refl refl) (All-contains P hs _ none box.left))
-      (carried _ _ (turned_side (pos 1) (pos 0) (negsuc 0) (pos 0) g refl refl) (All-contains P hs _ none box.right))
-      (carried _ _ (turned_side (pos 0) (negsuc 0) (pos 0) (pos 1) g refl refl) (All-contains P hs _ none box.bottom))
-      (carried _ _ (turned_side (pos 0) (pos 1) (pos 0) (negsuc 0) g refl refl) (All-contains P hs _ none box.top))
+    (carried _ _ (turned_side (negsuc 0) (pos 0) (pos 1) (pos 0) g refl refl) (All-contains P hs _ none box.left))
+    (carried _ _ (turned_side (pos 1) (pos 0) (negsuc 0) (pos 0) g refl refl) (All-contains P hs _ none box.right))
+    (carried _ _ (turned_side (pos 0) (negsuc 0) (pos 0) (pos 1) g refl refl) (All-contains P hs _ none box.bottom))
+    (carried _ _ (turned_side (pos 0) (pos 1) (pos 0) (negsuc 0) g refl refl) (All-contains P hs _ none box.top))
   where
     carried : (a b : ℤ) → a ≡ b → b ≤ℤ pos 0 → a ≤ℤ pos 0
     carried a b e h = omega (arith, linear)
-

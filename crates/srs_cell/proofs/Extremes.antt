@@ -1,14 +1,14 @@
 -- What the corners tell of the points: whether there is one, the least value of a form, and whether a point takes it.
-use Rattle.std.proofs.Common.{◌≡◌, ℕ, ◌+◌, ◌<◌, ◌≤◌, List, [], ◌∷◌, ◌++◌, length, get_or, ℤ, pos, negsuc, ◌+ℤ◌, ◌-ℤ◌, ◌*ℤ◌, neg_ℤ, ◌≤ℤ◌, ◌<ℤ◌, ◌⊎◌, inl, inr, All, refl, sym, ap, ◌∙◌, arith, ⊎_elim}
+use Rattle.std.proofs.Common.{◌≡◌, List, [], ◌∷◌, get_or, ℤ, pos, negsuc, ◌+ℤ◌, ◌-ℤ◌, ◌*ℤ◌, neg_ℤ, ◌≤ℤ◌, ◌<ℤ◌, ◌⊎◌, All, refl, ap, ◌∙◌, arith, ⊎_elim}
 use Rattle.std.proofs.lemmas.Int.{by_lt_z}
 use Rattle.std.proofs.lemmas.List.Elements.{All-nil, All-cons, All-head, All-tail, All-weaker}
 use Rattle.srs_num.specs.Points.{LinearForm, Point, value, opposite}
 use Rattle.srs_num.proofs.Combinations.{combine, mix, depth}
 use Rattle.srs_cell.specs.Hull.{IsInHalves, IsAbove, IsHull}
 use Rattle.srs_num.specs.Lines.{sum_of}
-use Rattle.srs_num.proofs.Linear.{linear, mul_zero, mul_one, mul_neg, mul_comm, mul_nonneg, mul_pos, nonneg_from, pos_from}
-use Rattle.srs_num.proofs.Ring.{Expr, v, lit, ◌⊕◌, ◌⊖◌, ◌⊗◌, minus, evaluate, ring}
-use Rattle.srs_num.proofs.Identities.{value-combine, value-mix, value-depth, value-opposite, mix-d, value-nothing, value-plus}
+use Rattle.srs_num.proofs.Linear.{linear, mul_zero, mul_one, mul_comm, mul_nonneg, mul_pos}
+use Rattle.srs_num.proofs.Ring.{v, lit, ◌⊕◌, ◌⊖◌, ◌⊗◌, minus, ring}
+use Rattle.srs_num.proofs.Identities.{value-combine, value-mix, value-depth, value-opposite, value-nothing, value-plus}
 
 pub value-sum : (f : LinearForm) (c : Point) (cs : List Point) → value f (sum_of (c ∷ cs)) ≡ value f c +ℤ value f (sum_of cs)
 unfolding sum_of
@@ -18,7 +18,7 @@ pub value-sum_none : (f : LinearForm) → value f (sum_of []) ≡ pos 0
 unfolding sum_of
 value-sum_none f = value-nothing f
 
--- a sum of numbers that are value least 0
+-- a sum of numbers that are at least 0
 pub sum_above : (f : LinearForm) (cs : List Point) → IsAbove f cs → pos 0 ≤ℤ value f (sum_of cs)
 sum_above f [] h = from_zero _ (value-sum_none f)
   where
@@ -39,10 +39,11 @@ each_below f (c ∷ cs) h =
     let rest = sum_above f cs tail in
     let Q : Point → Type 0 = λ x. value f x ≤ℤ value f (sum_of (c ∷ cs)) in
     All-cons Q c cs (first _ _ _ (value-sum f c cs) rest)
-      (All-weaker (λ x. value f x ≤ℤ value f (sum_of cs)) Q (λ x k. later _ _ _ _ (value-sum f c cs) head k) cs (each_below f cs tail))
+    (All-weaker (λ x. value f x ≤ℤ value f (sum_of cs)) Q (λ x k. later _ _ _ _ (value-sum f c cs) head k) cs (each_below f cs tail))
   where
     first : (r a b : ℤ) → r ≡ a +ℤ b → pos 0 ≤ℤ b → a ≤ℤ r
     first r a b e k = omega (arith, linear)
+
     later : (x r a b : ℤ) → r ≡ a +ℤ b → pos 0 ≤ℤ a → x ≤ℤ b → x ≤ℤ r
     later x r a b e h k = omega (arith, linear)
 
@@ -50,16 +51,17 @@ each_below f (c ∷ cs) h =
 pub sum_strict : (hs : List LinearForm) (cs : List Point) (f : LinearForm) (z : Point) → IsHull hs cs → IsAbove f cs → IsInHalves hs z → pos 0 <ℤ value f z → pos 0 <ℤ value f (sum_of cs)
 sum_strict hs cs f z hull above z_in up =
     by_lt_z (pos 0) (value f (sum_of cs)) (λ h. h)
-      (λ low.
-        let flat = All-weaker (λ c. value f c ≤ℤ value f (sum_of cs)) (λ c. pos 0 ≤ℤ value (opposite f) c) (λ c k. turned _ _ _ (value-opposite f c) k low) cs (each_below f cs above) in
-        absurd (clash _ _ (value-opposite f z) (hull.whole (opposite f) flat z z_in) up))
+    (λ low.
+    let flat = All-weaker (λ c. value f c ≤ℤ value f (sum_of cs)) (λ c. pos 0 ≤ℤ value (opposite f) c) (λ c k. turned _ _ _ (value-opposite f c) k low) cs (each_below f cs above) in
+    absurd (clash _ _ (value-opposite f z) (hull.whole (opposite f) flat z z_in) up))
   where
     turned : (r a s : ℤ) → r ≡ neg_ℤ a → a ≤ℤ s → s ≤ℤ pos 0 → pos 0 ≤ℤ r
     turned r a s e h k = omega (arith, linear)
+
     clash : (r a : ℤ) → r ≡ neg_ℤ a → pos 0 ≤ℤ r → pos 0 <ℤ a → ⊥
     clash r a e h k = omega (arith, linear)
 
--- num / den is a least value of f / d, where it is one value the corners
+-- num / den is a least value of f / d, where it is one at the corners
 pub low_bound : (hs : List LinearForm) (cs : List Point) (f : LinearForm) (num den : ℤ) → IsHull hs cs
     → All (λ c. (num *ℤ c.d) ≤ℤ (den *ℤ value f c)) cs → (z : Point) → IsInHalves hs z → (num *ℤ z.d) ≤ℤ (den *ℤ value f z)
 low_bound hs cs f num den hull least z z_in =
@@ -70,12 +72,14 @@ low_bound hs cs f num den hull least z z_in =
     value_of c =
         value-combine den (neg_ℤ num) f depth c ∙ ap (λ x. den *ℤ value f c +ℤ neg_ℤ num *ℤ x) (value-depth c)
         ∙ ring (den ∷ value f c ∷ num ∷ c.d ∷ []) (v 0 ⊗ v 1 ⊕ minus (v 2) ⊗ v 3) (v 0 ⊗ v 1 ⊖ v 2 ⊗ v 3) tt
+
     forth : (r a b : ℤ) → r ≡ a -ℤ b → b ≤ℤ a → pos 0 ≤ℤ r
     forth r a b e h = omega (arith, linear)
+
     back : (r a b : ℤ) → r ≡ a -ℤ b → pos 0 ≤ℤ r → b ≤ℤ a
     back r a b e h = omega (arith, linear)
 
--- f is least on some corners, where it is 0, and k has value most s there; a point where f is 0 has value most 0 value k if s is value most 0
+-- f is least on some corners, where it is 0, and k has at most s there; a point where f is 0 has k at most 0 if s is at most 0
 pub attained_core : (hs : List LinearForm) (cs : List Point) (f k : LinearForm) (s : ℤ) → IsHull hs cs → IsAbove k cs
     → All (λ c. ((value f c ≡ pos 0) × (value k c ≤ℤ s)) ⊎ (pos 0 <ℤ value f c)) cs → s ≤ℤ pos 0
     → (z : Point) → IsInHalves hs z → value f z ≡ pos 0 → value k z ≤ℤ pos 0
@@ -83,11 +87,11 @@ attained_core hs cs f k s hull above sides s_low z z_in fz =
     let most = value k (sum_of cs) in
     let f' = combine most f (negsuc 0) k in
     let good : IsAbove f' cs = λ i d lt.
-      let c = get_or cs i d in
-      ⊎_elim
-        (λ side. on_least most _ (value f c) (value k c) s (value-combine most (negsuc 0) f k c) side.0 side.1 s_low)
-        (λ side. off_least most _ (value f c) (value k c) (value-combine most (negsuc 0) f k c) side (sum_above k cs above) (each_below k cs above i d lt))
-        (sides i d lt) in
+    let c = get_or cs i d in
+    ⊎_elim
+    (λ side. on_least most _ (value f c) (value k c) s (value-combine most (negsuc 0) f k c) side.0 side.1 s_low)
+    (λ side. off_least most _ (value f c) (value k c) (value-combine most (negsuc 0) f k c) side (sum_above k cs above) (each_below k cs above i d lt))
+    (sides i d lt) in
     last most _ (value f z) (value k z) (value-combine most (negsuc 0) f k z) (hull.whole f' good z z_in) fz
   where
     on_least : (m r a b s : ℤ) → r ≡ m *ℤ a +ℤ negsuc 0 *ℤ b → a ≡ pos 0 → b ≤ℤ s → s ≤ℤ pos 0 → pos 0 ≤ℤ r
@@ -95,12 +99,14 @@ attained_core hs cs f k s hull above sides s_low z z_in fz =
         let t : m *ℤ a ≡ pos 0 = ap (λ x. m *ℤ x) z ∙ mul_comm m (pos 0) ∙ mul_zero m in
         let u = ring (b ∷ []) (lit (negsuc 0) ⊗ v 0) (minus (v 0)) tt in
         omega (arith, linear)
+
     off_least : (m r a b : ℤ) → r ≡ m *ℤ a +ℤ negsuc 0 *ℤ b → pos 0 <ℤ a → pos 0 ≤ℤ m → b ≤ℤ m → pos 0 ≤ℤ r
     off_least m r a b e h k l =
         let t = mul_nonneg m (a -ℤ pos 1) k (omega (arith, linear)) in
         let w = ring (m ∷ a ∷ []) (v 0 ⊗ (v 1 ⊖ lit (pos 1))) (v 0 ⊗ v 1 ⊖ v 0) tt in
         let u = ring (b ∷ []) (lit (negsuc 0) ⊗ v 0) (minus (v 0)) tt in
         omega (arith, linear)
+
     last : (m r a b : ℤ) → r ≡ m *ℤ a +ℤ negsuc 0 *ℤ b → pos 0 ≤ℤ r → a ≡ pos 0 → b ≤ℤ pos 0
     last m r a b e h z =
         let t : m *ℤ a ≡ pos 0 = ap (λ x. m *ℤ x) z ∙ mul_comm m (pos 0) ∙ mul_zero m in
@@ -111,17 +117,19 @@ attained_core hs cs f k s hull above sides s_low z z_in fz =
 pub near : (f : LinearForm) (c s : Point) → pos 0 <ℤ value f c → (m : ℤ) × (pos 0 ≤ℤ m) × (pos 0 <ℤ value f (mix m c (pos 1) s))
 near f c s up =
     by_lt_z (value f s) (pos 0)
-      (λ low. (pos 1 -ℤ value f s, room (value f s) low, enough _ _ _ (value f s) (value-mix (pos 1 -ℤ value f s) (pos 1) f c s) refl up (room (value f s) low)))
-      (λ high. (pos 1, omega (arith, linear), both _ (value f c) (value f s) (value-mix (pos 1) (pos 1) f c s) up high))
+    (λ low. (pos 1 -ℤ value f s, room (value f s) low, enough _ _ _ (value f s) (value-mix (pos 1 -ℤ value f s) (pos 1) f c s) refl up (room (value f s) low)))
+    (λ high. (pos 1, omega (arith, linear), both _ (value f c) (value f s) (value-mix (pos 1) (pos 1) f c s) up high))
   where
     room : (a : ℤ) → a <ℤ pos 0 → pos 0 ≤ℤ (pos 1 -ℤ a)
     room a h = omega (arith, linear)
+
     enough : (r m a b : ℤ) → r ≡ m *ℤ a +ℤ pos 1 *ℤ b → m ≡ pos 1 -ℤ b → pos 0 <ℤ a → pos 0 ≤ℤ m → pos 0 <ℤ r
     enough r m a b e f h k =
         let t = mul_nonneg m (a -ℤ pos 1) k (omega (arith, linear)) in
         let w = ring (m ∷ a ∷ []) (v 0 ⊗ (v 1 ⊖ lit (pos 1))) (v 0 ⊗ v 1 ⊖ v 0) tt in
         let u = mul_one b in
         omega (arith, linear)
+
     both : (r a b : ℤ) → r ≡ pos 1 *ℤ a +ℤ pos 1 *ℤ b → pos 0 <ℤ a → pos 0 ≤ℤ b → pos 0 <ℤ r
     both r a b e h k = let t = mul_one a in let u = mul_one b in omega (arith, linear)
 
@@ -132,30 +140,32 @@ all_below hs cs g hull below z z_in =
     let most = value depth (sum_of cs) in
     let f = combine (neg_ℤ most) g (negsuc 0) depth in
     let good : IsAbove f cs = λ i d lt.
-      let c = get_or cs i d in
-      off most _ _ _ (value-combine (neg_ℤ most) (negsuc 0) g depth c) (below i d lt) (sum_above depth cs deep) (each_below depth cs deep i d lt) in
+    let c = get_or cs i d in
+    off most _ _ _ (value-combine (neg_ℤ most) (negsuc 0) g depth c) (below i d lt) (sum_above depth cs deep) (each_below depth cs deep i d lt) in
     last most _ _ _ _ (value-combine (neg_ℤ most) (negsuc 0) g depth z) (hull.whole f good z z_in) (value-depth z) z_in.deep (sum_above depth cs deep)
   where
     low_depth : (a b : ℤ) → a ≡ b → pos 0 <ℤ b → pos 0 ≤ℤ a
     low_depth a b e h = omega (arith, linear)
+
     off : (m r a b : ℤ) → r ≡ neg_ℤ m *ℤ a +ℤ negsuc 0 *ℤ b → a <ℤ pos 0 → pos 0 ≤ℤ m → b ≤ℤ m → pos 0 ≤ℤ r
     off m r a b e h k l =
         let t = mul_nonneg m (neg_ℤ a -ℤ pos 1) k (omega (arith, linear)) in
         let w = ring (m ∷ a ∷ []) (v 0 ⊗ (minus (v 1) ⊖ lit (pos 1))) (minus (v 0) ⊗ v 1 ⊖ v 0) tt in
         let u = ring (b ∷ []) (lit (negsuc 0) ⊗ v 0) (minus (v 0)) tt in
         omega (arith, linear)
+
     last : (m r a b d : ℤ) → r ≡ neg_ℤ m *ℤ a +ℤ negsuc 0 *ℤ b → pos 0 ≤ℤ r → b ≡ d → pos 0 <ℤ d → pos 0 ≤ℤ m → a <ℤ pos 0
     last m r a b d e h f k l =
         by_lt_z a (pos 0) (λ low. low) (λ high.
-          let t = mul_nonneg m a l high in
-          let w = ring (m ∷ a ∷ []) (minus (v 0) ⊗ v 1) (minus (v 0 ⊗ v 1)) tt in
-          let u = ring (b ∷ []) (lit (negsuc 0) ⊗ v 0) (minus (v 0)) tt in
-          absurd (no _ _ _ _ _ _ e h f k t w u))
+        let t = mul_nonneg m a l high in
+        let w = ring (m ∷ a ∷ []) (minus (v 0) ⊗ v 1) (minus (v 0 ⊗ v 1)) tt in
+        let u = ring (b ∷ []) (lit (negsuc 0) ⊗ v 0) (minus (v 0)) tt in
+        absurd (no _ _ _ _ _ _ e h f k t w u))
       where
         no : (r p b d y z : ℤ) → r ≡ y +ℤ z → pos 0 ≤ℤ r → b ≡ d → pos 0 <ℤ d → pos 0 ≤ℤ p → y ≡ neg_ℤ p → z ≡ neg_ℤ b → ⊥
         no r p b d y z e h f k t w u = omega (arith, linear)
 
--- between a point with f below 0 and one with f above 0 there is one with f = 0, and it keeps each value that both have above 0, or value least 0
+-- between a point with f below 0 and one with f above 0 there is one with f = 0, and it keeps each value that both have above 0, or at least 0
 pub middle : (f : LinearForm) (r s : Point) → value f r <ℤ pos 0 → pos 0 <ℤ value f s → value f (mix (value f s) r (neg_ℤ (value f r)) s) ≡ pos 0
 middle f r s low high = value-mix (value f s) (neg_ℤ (value f r)) f r s ∙ ring (value f r ∷ value f s ∷ []) (v 1 ⊗ v 0 ⊕ minus (v 0) ⊗ v 1) (lit (pos 0)) tt
 
@@ -165,4 +175,3 @@ mix_strict k l h r s hk hl hr hs =
   where
     both : (r a b : ℤ) → r ≡ a +ℤ b → pos 0 <ℤ a → pos 0 <ℤ b → pos 0 <ℤ r
     both r a b e h k = omega (arith, linear)
-

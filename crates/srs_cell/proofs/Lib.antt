@@ -1,3 +1,4 @@
+pub mod Signs
 pub mod Clip
 pub mod Section
 pub mod Extremes
@@ -6,3 +7,7 @@ pub mod Boxed
 pub mod BoxHull
 pub mod Cuts
 pub mod Areas
+pub mod Closed
+pub mod Least
+pub mod Infima
+pub mod LeastFloors

@@ -1,50 +1,56 @@
--- The part of a line within some halves: its two ends, found one half value a time.
-use Rattle.std.proofs.Common.{◌≡◌, ℕ, ◌+◌, ◌^◌, ◌<◌, ◌≤◌, List, [], ◌∷◌, ◌++◌, length, get_or, ℤ, pos, negsuc, ◌+ℤ◌, ◌-ℤ◌, ◌*ℤ◌, neg_ℤ, ◌≤ℤ◌, ◌<ℤ◌, ◌⊎◌, inl, inr, All, Option, Some, None, MatchOption, refl, sym, ap, ◌∙◌, arith}
+-- The part of a line within some halves: its two ends, found one half at a time.
+use Rattle.std.proofs.Common.{◌≡◌, ◌^◌, List, [], ◌∷◌, ◌++◌, get_or, ℤ, pos, ◌+ℤ◌, ◌-ℤ◌, ◌*ℤ◌, neg_ℤ, ◌≤ℤ◌, ◌<ℤ◌, All, Option, Some, None, refl, sym, ap, ◌∙◌, arith}
 use Rattle.std.proofs.lemmas.Int.{by_lt_z}
-use Rattle.std.proofs.lemmas.List.Elements.{All-nil, All-cons, All-head, All-tail, All-weaker, All-push, All-pop}
+use Rattle.std.proofs.lemmas.List.Elements.{All-cons, All-head, All-tail, All-weaker, All-push, All-pop}
 use Rattle.srs_num.specs.Points.{LinearForm, Point, value, opposite, IsPointWithin}
 use Rattle.srs_num.specs.Lines.{meet}
 use Rattle.srs_num.proofs.Combinations.{mix, depth}
 use Rattle.srs_cell.specs.Hull.{IsInHalves, IsAbove, IsHull}
 use Rattle.srs_cell.specs.Cutting.{IsEnd, IsEndAt, IsFirstEnd}
-use Rattle.srs_num.proofs.Linear.{linear, mul_zero, mul_one, mul_neg, mul_comm, mul_nonneg, mul_pos, nonneg_from, pos_from, zero_from}
-use Rattle.srs_num.proofs.Identities.{value-meet_first, value-meet_second, cramer, along, value-depth, value-meet_depth, value-meet_turned, meet-d_turned, value-opposite, value-meet_parallel, value-meet_opposite, meet-d_opposite}
+use Rattle.srs_num.proofs.Linear.{linear, mul_zero, mul_comm, mul_nonneg, nonneg_from}
+use Rattle.srs_num.proofs.Identities.{value-meet_first, value-meet_second, cramer, along, value-depth, value-meet_turned, meet-d_turned, value-opposite, value-meet_parallel, value-meet_opposite, meet-d_opposite}
 use Rattle.srs_cell.proofs.Clip.{clip_whole, part_in_common}
 
--- a point of a longer list of halves
-in_front : (hs : List LinearForm) (h : LinearForm) (z : Point) → IsInHalves (hs ++ h ∷ []) z → IsInHalves hs z
+-- a point of the halves and one more
+pub in_more : (hs : List LinearForm) (h : LinearForm) (z : Point) → IsInHalves hs z → pos 0 ≤ℤ value h z → IsInHalves (hs ++ h ∷ []) z
+in_more hs h z i k = record { deep = i.deep; each = All-push (λ h. pos 0 ≤ℤ value h z) hs h i.each k }
+
+pub in_front : (hs : List LinearForm) (h : LinearForm) (z : Point) → IsInHalves (hs ++ h ∷ []) z → IsInHalves hs z
 in_front hs h z i = record { deep = i.deep; each = (All-pop (λ h. pos 0 ≤ℤ value h z) (hs ++ h ∷ []) hs (Some h) refl i.each).0 }
 
-in_last : (hs : List LinearForm) (h : LinearForm) (z : Point) → IsInHalves (hs ++ h ∷ []) z → pos 0 ≤ℤ value h z
+pub in_last : (hs : List LinearForm) (h : LinearForm) (z : Point) → IsInHalves (hs ++ h ∷ []) z → pos 0 ≤ℤ value h z
 in_last hs h z i = (All-pop (λ h. pos 0 ≤ℤ value h z) (hs ++ h ∷ []) hs (Some h) refl i.each).1
 
 -- the end so far stays
 pub end_keep : (g : LinearForm) (hs : List LinearForm) (e h : LinearForm) → IsEnd g hs e → (pos 0 <ℤ (meet h g).d → pos 0 ≤ℤ value h (meet e g)) → IsEnd g (hs ++ h ∷ []) e
 end_keep g hs e h i k = record {
-    kind = i.kind;
-    good = All-push (λ h. pos 0 <ℤ (meet h g).d → pos 0 ≤ℤ value h (meet e g)) hs h i.good k;
-    mine = λ z z_in. i.mine z (in_front hs h z z_in)
-  }
+  kind = i.kind;
+  good = All-push (λ h. pos 0 <ℤ (meet h g).d → pos 0 ≤ℤ value h (meet e g)) hs h i.good k;
+  mine = λ z z_in. i.mine z (in_front hs h z z_in);
+}
 
 -- a half that cuts the end off has the new one
 pub end_swap : (g : LinearForm) (hs : List LinearForm) (e h : LinearForm) → IsEnd g hs e → pos 0 <ℤ (meet h g).d → value h (meet e g) <ℤ pos 0 → IsEnd g (hs ++ h ∷ []) h
 end_swap g hs e h i k low = record {
-    kind = k;
-    good = All-push Good hs h
+  kind = k;
+  good = All-push Good hs h
       (All-weaker (λ k. pos 0 <ℤ (meet k g).d → pos 0 ≤ℤ value k (meet e g)) Good (λ j old dj.
-        nonneg_from (meet e g).d (value j (meet h g)) i.kind
-          (sum_by (meet j g).d (value e (meet h g)) (meet h g).d (value j (meet e g)) _ (along j e h g) dj
-            (turned_up _ _ (value-meet_turned e h g) low) k (old dj))) hs i.good)
+      nonneg_from (meet e g).d (value j (meet h g)) i.kind
+      (sum_by (meet j g).d (value e (meet h g)) (meet h g).d (value j (meet e g)) _ (along j e h g) dj
+      (turned_up _ _ (value-meet_turned e h g) low) k (old dj))) hs i.good)
       (λ _. zero_good _ (value-meet_first h g));
-    mine = in_last hs h
-  }
+  mine = in_last hs h;
+}
   where
     Good : LinearForm → Type 0
     Good j = pos 0 <ℤ (meet j g).d → pos 0 ≤ℤ value j (meet h g)
+
     zero_good : (a : ℤ) → a ≡ pos 0 → pos 0 ≤ℤ a
     zero_good a e = omega (arith, linear)
+
     turned_up : (a b : ℤ) → a ≡ neg_ℤ b → b <ℤ pos 0 → pos 0 ≤ℤ a
     turned_up a b e h = omega (arith, linear)
+
     sum_by : (a x b y r : ℤ) → a *ℤ x +ℤ b *ℤ y ≡ r → pos 0 <ℤ a → pos 0 ≤ℤ x → pos 0 <ℤ b → pos 0 ≤ℤ y → pos 0 ≤ℤ r
     sum_by a x b y r e ha hx hb hy =
         let p = mul_nonneg a x (omega (arith, linear)) hx in
@@ -54,46 +60,51 @@ end_swap g hs e h i k low = record {
 -- the first half that bounds the line that way
 pub end_first : (g : LinearForm) (hs : List LinearForm) (h : LinearForm) → All (λ h. (meet h g).d ≤ℤ pos 0) hs → pos 0 <ℤ (meet h g).d → IsEnd g (hs ++ h ∷ []) h
 end_first g hs h none k = record {
-    kind = k;
-    good = All-push Good hs h
+  kind = k;
+  good = All-push Good hs h
       (All-weaker (λ h. (meet h g).d ≤ℤ pos 0) Good (λ j low up. absurd (clash _ low up)) hs none)
       (λ _. zero_good _ (value-meet_first h g));
-    mine = in_last hs h
-  }
+  mine = in_last hs h;
+}
   where
     Good : LinearForm → Type 0
     Good j = pos 0 <ℤ (meet j g).d → pos 0 ≤ℤ value j (meet h g)
+
     zero_good : (a : ℤ) → a ≡ pos 0 → pos 0 ≤ℤ a
     zero_good a e = omega (arith, linear)
+
     clash : (a : ℤ) → a ≤ℤ pos 0 → pos 0 <ℤ a → ⊥
     clash a h k = omega (arith, linear)
 
 -- with a point w of the halves on the line, the end is in each half
 pub end_inside : (g : LinearForm) (hs : List LinearForm) (e : LinearForm) (w : Point) → IsEnd g hs e → IsInHalves hs w → value g w ≡ pos 0 → IsInHalves hs (meet e g)
 end_inside g hs e w i iw on = let ew = i.mine w iw in record {
-    deep = i.kind;
-    each = λ n d lt.
+  deep = i.kind;
+  each = λ n d lt.
       let h = get_or hs n d in
       by_lt_z (pos 0) (meet h g).d
-        (λ up. i.good n d lt up)
-        (λ down. by_lt_z (meet h g).d (pos 0)
-          (λ below. other_way h (iw.each n d lt) below)
-          (λ at_zero. level h (iw.each n d lt) (both _ down at_zero)))
-  }
+      (λ up. i.good n d lt up)
+      (λ down. by_lt_z (meet h g).d (pos 0)
+      (λ below. other_way h (iw.each n d lt) below)
+      (λ at_zero. level h (iw.each n d lt) (both _ down at_zero)));
+}
   where
     both : (a : ℤ) → a ≤ℤ pos 0 → pos 0 ≤ℤ a → a ≡ pos 0
     both a h k = omega (arith, linear)
+
     deep_by : (a b : ℤ) → a ≡ b → pos 0 <ℤ b → pos 0 <ℤ a
     deep_by a b e h = omega (arith, linear)
+
     turned_deep : (a b c : ℤ) → a ≡ b → b ≡ neg_ℤ c → c <ℤ pos 0 → pos 0 <ℤ a
     turned_deep a b c e f h = omega (arith, linear)
+
     -- h bounds the line the other way
     other_way : (h : LinearForm) → pos 0 ≤ℤ value h w → (meet h g).d <ℤ pos 0 → pos 0 ≤ℤ value h (meet e g)
     other_way h hw below =
         let c = cramer h e g depth w in
         nonneg_from (value depth w) (value h (meet e g)) (deep_by _ _ (value-depth w) iw.deep)
-          (from_cramer (value h (meet e g)) (value depth w) (value h w) (value depth (meet e g)) (value e w) (value depth (meet g h)) (value g w) (value depth (meet h e)) c
-            on hw (i.mine w iw) (deep_by _ _ (value-depth (meet e g)) i.kind) (turned_deep _ _ _ (value-depth (meet g h)) (meet-d_turned g h) below))
+        (from_cramer (value h (meet e g)) (value depth w) (value h w) (value depth (meet e g)) (value e w) (value depth (meet g h)) (value g w) (value depth (meet h e)) c
+        on hw (i.mine w iw) (deep_by _ _ (value-depth (meet e g)) i.kind) (turned_deep _ _ _ (value-depth (meet g h)) (meet-d_turned g h) below))
       where
         from_cramer : (s dw hw xd ew yd gw o : ℤ) → s *ℤ dw ≡ hw *ℤ xd +ℤ ew *ℤ yd +ℤ gw *ℤ o → gw ≡ pos 0
             → pos 0 ≤ℤ hw → pos 0 ≤ℤ ew → pos 0 <ℤ xd → pos 0 <ℤ yd → pos 0 ≤ℤ (dw *ℤ s)
@@ -103,11 +114,12 @@ end_inside g hs e w i iw on = let ew = i.mine w iw in record {
             let r : gw *ℤ o ≡ pos 0 = ap (λ a. a *ℤ o) z ∙ mul_zero o in
             let t = mul_comm dw s in
             omega (arith, linear)
+
     -- h runs along the line
     level : (h : LinearForm) → pos 0 ≤ℤ value h w → (meet h g).d ≡ pos 0 → pos 0 ≤ℤ value h (meet e g)
     level h hw flat =
         nonneg_from w.d (value h (meet e g)) iw.deep
-          (from_parallel w.d (value h (meet e g)) (meet e g).d (value h w) (value e w) (meet h g).d (value g w) _ (value-meet_parallel e g h w) on flat hw i.kind)
+        (from_parallel w.d (value h (meet e g)) (meet e g).d (value h w) (value e w) (meet h g).d (value g w) _ (value-meet_parallel e g h w) on flat hw i.kind)
       where
         from_parallel : (dw hx xd hw ew f gw o : ℤ) → dw *ℤ hx ≡ xd *ℤ hw -ℤ ew *ℤ f +ℤ gw *ℤ o → gw ≡ pos 0 → f ≡ pos 0 → pos 0 ≤ℤ hw → pos 0 <ℤ xd → pos 0 ≤ℤ (dw *ℤ hx)
         from_parallel dw hx xd hw ew f gw o e z y h k =
@@ -132,28 +144,32 @@ clip_is_hull hs cs us ns e h g u n hull cover us_in ns_in gu gn u_up u_in n_low 
     let y_in = end_inside (opposite g) hs h w h_end c.1 (turned_zero _ _ (value-opposite g w) c.0) in
     record {
       inside =
-        All-cons (IsInHalves (g ∷ hs)) x (y ∷ us) (with_line x x_in (nonneg_by_zero _ (value-meet_second e g)))
-        (All-cons (IsInHalves (g ∷ hs)) y us (with_line y y_in (nonneg_by_zero _ (value-meet_opposite g h g ∙ value-meet_first g h)))
-        (λ i d lt. with_line (get_or us i d) (us_in i d lt) (gu i d lt)));
+          All-cons (IsInHalves (g ∷ hs)) x (y ∷ us) (with_line x x_in (nonneg_by_zero _ (value-meet_second e g)))
+          (All-cons (IsInHalves (g ∷ hs)) y us (with_line y y_in (nonneg_by_zero _ (value-meet_opposite g h g ∙ value-meet_first g h)))
+          (λ i d lt. with_line (get_or us i d) (us_in i d lt) (gu i d lt)));
       whole = λ f above z z_in.
-        let old : IsInHalves hs z = record { deep = z_in.deep; each = All-tail (λ h. pos 0 ≤ℤ value h z) g hs z_in.each } in
-        let rest = All-tail (λ c. pos 0 ≤ℤ value f c) x (y ∷ us) above in
-        clip_whole hs cs us ns e h g hull cover us_in ns_in gu gn e_end.mine h_end.mine e_end.kind (deep_by _ _ (sym (meet-d_opposite h g)) h_end.kind)
+          let old : IsInHalves hs z = record { deep = z_in.deep; each = All-tail (λ h. pos 0 ≤ℤ value h z) g hs z_in.each } in
+          let rest = All-tail (λ c. pos 0 ≤ℤ value f c) x (y ∷ us) above in
+          clip_whole hs cs us ns e h g hull cover us_in ns_in gu gn e_end.mine h_end.mine e_end.kind (deep_by _ _ (sym (meet-d_opposite h g)) h_end.kind)
           (h_end.mine x x_in)
           f (All-tail (λ c. pos 0 ≤ℤ value f c) y us rest)
           (All-head (λ c. pos 0 ≤ℤ value f c) x (y ∷ us) above)
           (nonneg_same _ _ (sym (value-meet_opposite f h g)) (All-head (λ c. pos 0 ≤ℤ value f c) y us rest))
-          z old (All-head (λ h. pos 0 ≤ℤ value h z) g hs z_in.each)
+          z old (All-head (λ h. pos 0 ≤ℤ value h z) g hs z_in.each);
     }
   where
     with_line : (z : Point) → IsInHalves hs z → pos 0 ≤ℤ value g z → IsInHalves (g ∷ hs) z
     with_line z i k = record { deep = i.deep; each = All-cons (λ h. pos 0 ≤ℤ value h z) g hs k i.each }
+
     nonneg_by_zero : (a : ℤ) → a ≡ pos 0 → pos 0 ≤ℤ a
     nonneg_by_zero a e = omega (arith, linear)
+
     nonneg_same : (a b : ℤ) → a ≡ b → pos 0 ≤ℤ b → pos 0 ≤ℤ a
     nonneg_same a b e h = omega (arith, linear)
+
     turned_zero : (a b : ℤ) → a ≡ neg_ℤ b → b ≡ pos 0 → a ≡ pos 0
     turned_zero a b e z = omega (arith, linear)
+
     deep_by : (a b : ℤ) → a ≡ b → pos 0 <ℤ b → pos 0 <ℤ a
     deep_by a b e h = omega (arith, linear)
 
@@ -167,11 +183,11 @@ below_not a h k = omega (arith, linear)
 
 stays : (g : LinearForm) (hs : List LinearForm) (h : LinearForm) (c : Point) → (pos 0 <ℤ (meet h g).d → pos 0 ≤ℤ value h c) → IsEndAt g hs c → IsEndAt g (hs ++ h ∷ []) c
 stays g hs h c k s = record {
-    half = s.half;
-    is_end = end_keep g hs s.half h s.is_end (λ up. let r : pos 0 ≤ℤ value h (meet s.half g) = rw (← s.crossing) (k up) in r);
-    crossing = s.crossing;
-    sized = s.sized
-  }
+  half = s.half;
+  is_end = end_keep g hs s.half h s.is_end (λ up. let r : pos 0 ≤ℤ value h (meet s.half g) = rw (← s.crossing) (k up) in r);
+  crossing = s.crossing;
+  sized = s.sized;
+}
 
 -- it doesn't bound the line this way
 pub end_passed : (g : LinearForm) (hs : List LinearForm) (h : LinearForm) (end : Option Point) → (meet h g).d ≤ℤ pos 0 → IsFirstEnd g hs end → IsFirstEnd g (hs ++ h ∷ []) end
@@ -195,15 +211,3 @@ end_moved g hs h end c x is low up crossing sized s =
     let old : IsEndAt g hs c = rw is at s in
     let lower : value h (meet old.half g) <ℤ pos 0 = rw (← old.crossing) low in
     record { half = h; is_end = end_swap g hs old.half h old.is_end up lower; crossing = crossing; sized = sized }
-
-pub at_most_by : (a b : ℤ) → a ≡ b → a ≤ℤ pos 0 → b ≤ℤ pos 0
-at_most_by a b e h = omega (arith, linear)
-
-pub at_least_by : (a b : ℤ) → a ≡ b → pos 0 ≤ℤ a → pos 0 ≤ℤ b
-at_least_by a b e h = omega (arith, linear)
-
-pub below_by : (a b : ℤ) → a ≡ b → a <ℤ pos 0 → b <ℤ pos 0
-below_by a b e h = omega (arith, linear)
-
-pub above_by : (a b : ℤ) → a ≡ b → pos 0 <ℤ a → pos 0 <ℤ b
-above_by a b e h = omega (arith, linear)

@@ -1,5 +1,5 @@
 -- Cutting the corners of some halves by a form.
-use Rattle.std.specs.Prelude.{◌≡◌, ◌≤◌, ◌+◌, ◌^◌, ℕ, ℤ, pos, ◌≤ℤ◌, ◌<ℤ◌, List, [], ◌∷◌, ◌++◌, All, length, Option, MatchOption}
+use Rattle.std.specs.Prelude.{◌≡◌, ◌≤◌, ◌+◌, ◌^◌, ℕ, pos, ◌≤ℤ◌, ◌<ℤ◌, List, [], ◌∷◌, ◌++◌, All, length, Option, MatchOption}
 use Rattle.srs_num.specs.Points.{Point, LinearForm, value, IsPointWithin}
 use Rattle.srs_num.specs.Lines.{meet}
 use Rattle.srs_cell.specs.Hull.{IsInHalves, IsAbove, IsBelow, IsHull}

@@ -1,7 +1,8 @@
 // Cells, and how they are made.
 ghost use Rattle.std.specs.Prelude.{◌≡◌, ◌↔◌, IsTrue, IfOk, MatchOption, All};
 ghost use Rattle.srs_plane.specs.Regions.{IsIn, IsInHalf, HasPoint};
-ghost use Rattle.srs_cell.specs.Corners.{AreCorners};
+ghost use Rattle.srs_num.specs.Points.{Point};
+ghost use Rattle.srs_cell.specs.Corners.{IsCell};
 
 use crate::corners::{copied, corners_of};
 use srs_num::{Corner, NoMemory, sum};
@@ -9,7 +10,7 @@ use srs_plane::{Half, Kind, Region};
 use std::alloc::Global;
 use std::marker::Model;
 
-/// A region that has a point, with its corners.
+/// A region that has a point, with the corners of its halves, where open edges count as closed: 1 to 84 of them.
 #[derive(Drop)]
 pub struct Cell {
     region: Region,
@@ -30,21 +31,23 @@ impl Model for Cell {
 }
 
 impl Cell {
-    /// The cell of the region. `None` exactly where the region has no point.
+    /// The cell of the region, which may be a segment or a single point. `None` exactly where the region has no point. An
+    /// `Err` is want of memory. Both let the region go.
     pub fn of(alloc: Global, region: Region) -> Result<Option<Cell>, NoMemory>
         ensures { IfOk result (λ found. MatchOption found (HasPoint region → ⊥) (λ cell. cell ≡ region)) }
     {
         let Some(corners) = corners_of(alloc, &region)? else {
             return Ok(None);
         };
+        // Where some point is strictly inside an open edge, so is the sum of all corners.
         let sample = sum(&corners);
         if !is_inside(&region, &sample) {
             return Ok(None);
         }
         Ok(Some(Cell {
             region,
-            corners,
             sample,
+            corners,
         }))
     }
 
@@ -63,7 +66,7 @@ impl Cell {
         self.sample
     }
 
-    /// An equal cell.
+    /// An equal cell. An `Err` is want of memory.
     pub fn copy(&self, alloc: Global) -> Result<Cell, NoMemory>
         ensures { IfOk result (λ cell. cell ≡ self.now) }
     {
@@ -74,9 +77,9 @@ impl Cell {
         })
     }
 
-    // The corners, of which there are at most 84.
+    // The corners, at most 84 of them.
     pub(crate) fn corners(&self) -> &[Corner]
-        ensures { AreCorners self.now result.now }
+        ensures { (sample : Point) × IsCell self.now result.now sample }
     {
         &self.corners
     }

@@ -71,7 +71,13 @@ fn keep_above(alloc: Global, corners: &[Corner], line: &Form) -> Result<Vec<Corn
 
 // What the line's form leaves of the region's first `count` halves, whose corners these are.
 // It goes over the corners, and over the halves once for each end of the cut. It takes memory only for a part.
-pub(crate) fn clip_corners(alloc: Global, region: &Region, count: u32, corners: &[Corner], line: &Form) -> Result<Remains, NoMemory>
+pub(crate) fn clip_corners(
+    alloc: Global,
+    region: &Region,
+    count: u32,
+    corners: &[Corner],
+    line: &Form,
+) -> Result<Remains, NoMemory>
     requires count { count ≤ length region.now }
     requires hull { IsHull (boxed (take count region.now)) corners.now }
     requires sized { All (IsPointWithin (2 ^ 77)) corners.now }

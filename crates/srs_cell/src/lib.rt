@@ -1,8 +1,12 @@
 //! Cells: regions that have a point, with their corners.
 #![tactic(auto)]
 
+mod bounds;
 mod cells;
 mod corners;
 mod ends;
+mod moves;
 
+pub use bounds::Bound;
 pub use cells::Cell;
+pub use moves::Span;

@@ -13,7 +13,7 @@ use Rattle.srs_path.specs.Witnesses.{IsWitness, HasEdge, unit, link, IsSmall}
 use Rattle.srs_map.specs.Links.{right}
 use Rattle.srs_path.specs.Core.{Precedes}
 use Rattle.srs_path.specs.ChosenCycle.{NotAfter}
-use Rattle.srs_wit.specs.Moves.{LeadsTo, AreMoves}
+use Rattle.srs_cell.specs.Moves.{LeadsTo, AreMoves}
 use Rattle.srs_wit.specs.Listing.{AreAllWitnesses}
 use Rattle.srs_graph.specs.declared.rows.Row.{Row}
 use Rattle.srs_graph.specs.Networks.{pair_at, row_at, IsInRow, AreRows, IsRowOf, AreRowsOf, network, IsNetwork, IsGraph}

@@ -14,7 +14,8 @@ use crate::rows::{Row, rows_of};
 use crate::walks::{entries, first_open, walk};
 use srs_num::{NoMemory, Pairs, V2};
 use srs_path::{Cycle, Ranks};
-use srs_wit::{Cell, WitSet};
+use srs_cell::Cell;
+use srs_wit::WitSet;
 use std::alloc::Global;
 use std::marker::Model;
 

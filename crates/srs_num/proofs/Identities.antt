@@ -35,7 +35,7 @@ pub value-meet_second : (f g : LinearForm) → value g (meet f g) ≡ pos 0
 unfolding value meet
 value-meet_second f g = ring (of_form f (of_form g [])) (dot (triple 3) (wedge (triple 0) (triple 3))) (lit (pos 0)) tt
 
--- the area of the corners times the value of f, for a form that is good value three corners
+-- the area of three corners times the value of f at z is a sum of its values at the corners
 pub area_identity : (u t w z : Point) (f : LinearForm) →
     value (edge_form u t) w *ℤ value f z ≡ value (edge_form t w) z *ℤ value f u +ℤ value (edge_form w u) z *ℤ value f t +ℤ value (edge_form u t) z *ℤ value f w
 unfolding value edge_form

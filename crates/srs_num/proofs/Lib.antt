@@ -6,3 +6,4 @@ pub mod Combinations
 pub mod Identities
 pub mod Crossings
 pub mod Sums
+pub mod Quotients

@@ -9,7 +9,7 @@ mod pairs;
 mod points;
 mod steps;
 
-pub use division::{ceil_div, floor_div};
+pub use division::{ceil_div, floor_div, is_less_quotient};
 pub use forms::{Form, product};
 pub use lines::{cross, crossing_of, minor, sum, turn};
 pub use lists::{Forms, Pairs};

@@ -17,6 +17,10 @@ each_of_range {X} P f (suc n) s h j low high =
     first_or_later : (s j : ℕ) → s ≤ j → (s ≡ j) ⊎ (s + 1 ≤ j)
     first_or_later s j h = grind arith
 
+pub all_of_range : {X : Type 0} (P : X → Type 0) (f : ℕ → X) (n s : ℕ) → ((j : ℕ) → s ≤ j → j < s + n → P (f j)) → AllByRecursion P (map f (range_with_len s n))
+all_of_range P f zero s h = tt
+all_of_range P f (suc n) s h = (h s (omega arith) (omega arith), all_of_range P f n (s + 1) (λ j low high. h j (omega arith) (omega arith)))
+
 pub all_weaker : {X : Type 0} (P Q : X → Type 0) → ((x : X) → P x → Q x) → (xs : List X) → AllByRecursion P xs → AllByRecursion Q xs
 all_weaker P Q k [] h = tt
 all_weaker P Q k (x ∷ xs) h = (k x h.0, all_weaker P Q k xs h.1)

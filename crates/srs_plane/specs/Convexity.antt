@@ -3,7 +3,7 @@ use Rattle.std.specs.Prelude.{◌≡◌, ℕ, ◌<◌, List, length, pos, ◌+�
 use Rattle.srs_num.specs.Points.{Point, LinearForm, value}
 use Rattle.srs_num.specs.Lines.{edge_form}
 use Rattle.srs_plane.specs.declared.polygons.Vertex.{Vertex}
-use Rattle.srs_plane.specs.Regions.{IsInClosed}
+use Rattle.srs_plane.specs.Regions.{IsInClosed, HasPoint}
 use Rattle.srs_plane.specs.Polygons.{point_of, vertex_at, IsPolygon, region_of}
 
 -- the area of a triangle times the value of a form is the sum of its values at the corners, each times the area of
@@ -40,3 +40,7 @@ abbrev pub VerticesSpeak : Type 0
 VerticesSpeak =
     (vs : List Vertex) → IsPolygon vs → (f : LinearForm) → IsAboveVertices f vs
     → (z : Point) → IsInClosed (region_of vs) z → pos 0 ≤ℤ value f z
+
+-- a polygon has a point within all its edges
+abbrev pub PolygonsHavePoints : Type 0
+PolygonsHavePoints = (vs : List Vertex) → IsPolygon vs → HasPoint (region_of vs)

@@ -5,6 +5,7 @@ ghost use Rattle.srs_num.specs.Points.{value, IsNear, IsWithin};
 ghost use Rattle.srs_num.specs.Lines.{edge_form};
 ghost use Rattle.srs_plane.specs.Polygons.{point_of, vertex_at, edge_at, IsShallow, TurnsLeft, TurnsWrong, IsCounted, AreShallow, AreNear, IsPolygon, IsPolygonErr, region_of};
 ghost use Rattle.srs_plane.specs.Placed.{IsPlaced};
+ghost use Rattle.srs_plane.specs.Regions.{HasPoint};
 
 use crate::{Half, Kind, Region};
 use srs_num::{Form, Pt};
@@ -42,6 +43,7 @@ pub enum PolyErr {
 pub fn polygon(alloc: Global, vs: &[Vertex]) -> Result<Region, PolyErr>
     ensures ok { IfOk result (λ region. region ≡ region_of vs.now) }
     ensures polygon { OnOk result (IsPolygon vs.now) }
+    ensures point { OnOk result (HasPoint (region_of vs.now)) }
     ensures err { IfErr result (λ e. IsPolygonErr vs.now e) }
 {
     check_count(vs)?;

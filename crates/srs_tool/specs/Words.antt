@@ -3,18 +3,23 @@ use Rattle.std.specs.Prelude.{◌≡◌, ℕ, List, [], ◌∷◌, pos, codes}
 use Rattle.srs_text.specs.Spelling.{IsNumber}
 use Rattle.srs_path.specs.Views.{Budget, IsBudget}
 
--- `certify` and three numbers, in the one spelling, that are a depth, a number of cells and a number of witnesses
-pub record AsksCertify (words : List (List ℕ)) (b : Budget) : Type 0 where
-  pub depth_text : List ℕ
-  pub cells_text : List ℕ
-  pub wits_text : List ℕ
-  pub split : words ≡ codes "certify" ∷ depth_text ∷ cells_text ∷ wits_text ∷ []
-  pub depth : IsNumber depth_text (pos b.depth)
-  pub cells : IsNumber cells_text (pos b.cells)
-  pub wits : IsNumber wits_text (pos b.wits)
+-- three numbers, in their one spelling, that are a depth, a number of cells and a number of witnesses
+pub record SpellsLimits (depth cells wits : List ℕ) (b : Budget) : Type 0 where
+  pub depth_is : IsNumber depth (pos b.depth)
+  pub cells_is : IsNumber cells (pos b.cells)
+  pub wits_is : IsNumber wits (pos b.wits)
   pub budget : IsBudget b
+
+-- the words are `certify` and three limits
+pub record AsksCertify (words : List (List ℕ)) (b : Budget) : Type 0 where
+  pub depth : List ℕ
+  pub cells : List ℕ
+  pub wits : List ℕ
+  pub split : words ≡ codes "certify" ∷ depth ∷ cells ∷ wits ∷ []
+  pub limits : SpellsLimits depth cells wits b
 
 -- the words that the program knows: `certify 0 1 W`
 pub record IsForm (words : List (List ℕ)) (b : Budget) : Type 0 where
   pub certify : AsksCertify words b
-  pub one_cell : (b.depth ≡ 0) × (b.cells ≡ 1)
+  pub no_cut : b.depth ≡ 0
+  pub one_cell : b.cells ≡ 1

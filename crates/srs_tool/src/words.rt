@@ -1,8 +1,8 @@
 // The words of the command line.
-ghost use Rattle.std.specs.Prelude.{◌≡◌, ◌↔◌, IsTrue, List, ℕ, [], ◌∷◌, map, codes, pos, string_bytes, IfSome, IfNone};
+ghost use Rattle.std.specs.Prelude.{◌≡◌, ◌↔◌, IsTrue, List, ℕ, [], ◌∷◌, map, codes, pos, ◌<◌, ◌^◌, string_bytes, IfSome, IfNone};
 ghost use Rattle.srs_text.specs.Spelling.{IsNumber};
 ghost use Rattle.srs_path.specs.Views.{Budget};
-ghost use Rattle.srs_tool.specs.Words.{AsksCertify, IsForm};
+ghost use Rattle.srs_tool.specs.Words.{SpellsLimits, AsksCertify, IsForm};
 
 use srs_path::Limits;
 use srs_text::number;
@@ -12,15 +12,18 @@ pub fn form_of(words: &[String]) -> Option<Limits>
     ensures some { IfSome result (IsForm (map string_bytes words.now)) }
     ensures none { IfNone result ((b : Budget) → IsForm (map string_bytes words.now) b → ⊥) }
 {
-    let limits = limits_of(words)?;
+    let limits = match certify_limits(words) {
+        Some(limits) => limits,
+        None => return None,
+    };
     if limits.depth() != 0 || limits.cells() != 1 {
         return None;
     }
     Some(limits)
 }
 
-// The three numbers behind `certify`.
-fn limits_of(words: &[String]) -> Option<Limits>
+// The limits behind `certify`.
+fn certify_limits(words: &[String]) -> Option<Limits>
     ensures some { IfSome result (AsksCertify (map string_bytes words.now)) }
     ensures none { IfNone result ((b : Budget) → AsksCertify (map string_bytes words.now) b → ⊥) }
 {
@@ -30,16 +33,32 @@ fn limits_of(words: &[String]) -> Option<Limits>
     if !is_certify(command.as_str()) {
         return None;
     }
-    let depth = count_of(depth.as_bytes())?;
-    let cells = count_of(cells.as_bytes())?;
-    let wits = count_of(wits.as_bytes())?;
-    Limits::new(depth, cells, wits)
+    limits_of(depth.as_bytes(), cells.as_bytes(), wits.as_bytes())
 }
 
 fn is_certify(word: &str) -> bool
     ensures { IsTrue result ↔ (word.now ≡ codes "certify") }
 {
     word == "certify"
+}
+
+// The limits that three words spell.
+fn limits_of(depth: &[u8], cells: &[u8], wits: &[u8]) -> Option<Limits>
+    ensures some { IfSome result (SpellsLimits depth.now cells.now wits.now) }
+    ensures none { IfNone result ((b : Budget) → SpellsLimits depth.now cells.now wits.now b → ⊥) }
+{
+    let most_depth = match count_of(depth) {
+        Some(n) => n,
+        None => return None,
+    };
+    let most_cells = match count_of(cells) {
+        Some(n) => n,
+        None => return None,
+    };
+    match count_of(wits) {
+        Some(most_wits) => Limits::new(most_depth, most_cells, most_wits),
+        None => None,
+    }
 }
 
 // A number from 0 to 2^32 - 1.

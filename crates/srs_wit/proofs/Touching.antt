@@ -10,7 +10,7 @@ use Rattle.srs_num.proofs.Ring.{v, lit, ◌⊕◌, ◌⊖◌, ◌⊗◌, minus a
 use Rattle.srs_num.proofs.Floors.{floor_is, floor_greatest}
 use Rattle.srs_map.specs.Step.{pair, minus, step_of}
 use Rattle.srs_plane.specs.Regions.{Area, IsIn, HasPoint}
-use Rattle.srs_wit.specs.Moves.{LeadsTo, LeadsBackTo, AreMoves}
+use Rattle.srs_cell.specs.Moves.{LeadsTo, LeadsBackTo, AreMoves}
 use Rattle.srs_wit.specs.Spans.{LinksTo}
 
 -- floor(-x) is -floor(x) or one less

@@ -1,4 +1,3 @@
-pub mod Moves
 pub mod Least
 pub mod Listing
 pub mod Spans

@@ -7,7 +7,7 @@ ghost use Rattle.srs_path.specs.Witnesses.{IsWitness, IsSmall};
 ghost use Rattle.srs_wit.specs.Listing.{AreAllWitnesses, AreTooMany, IsExcess};
 ghost use Rattle.srs_wit.specs.Search.{AreFound, Adds, Extends, IsClosedAt, HasUnits, AreAll};
 
-use crate::cells::Cell;
+use srs_cell::Cell;
 use crate::sets::{Big, WitErr, WitSet};
 use crate::spans::{count, first_pairs, is_narrow, links, pair_at};
 use indexmap::IndexSet;

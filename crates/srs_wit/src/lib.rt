@@ -2,12 +2,10 @@
 //! of the cell.
 #![tactic(auto)]
 
-mod cells;
 mod closure;
 pub mod laws;
 mod sets;
 mod spans;
 
-pub use cells::{Cell, Span};
 pub use closure::witnesses;
 pub use sets::{Big, WitErr, WitSet};

@@ -2,10 +2,10 @@
 ghost use Rattle.std.specs.Prelude.{◌≡◌, ◌≤◌, ◌<◌, ◌^◌, ◌↔◌, IsTrue, IfOk};
 ghost use Rattle.srs_num.specs.Points.{IsWithin};
 ghost use Rattle.srs_map.specs.Step.{IsNarrow};
-ghost use Rattle.srs_wit.specs.Moves.{AreMoves};
+ghost use Rattle.srs_cell.specs.Moves.{AreMoves};
 ghost use Rattle.srs_wit.specs.Spans.{LinksTo, IsCount, pair_from, pairs_from};
 
-use crate::cells::{Cell, Span};
+use srs_cell::{Cell, Span};
 use srs_num::{NoMemory, Pairs, V2};
 use std::alloc::Global;
 

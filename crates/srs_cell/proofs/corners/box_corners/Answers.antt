@@ -27,8 +27,8 @@ returns c =
       low_left = rw (c.side-right.ensures, c.side-top.ensures) at c.crossing_of.ensures.value;
       low_right = rw (c.side-top.ensures, c.side-left.ensures) at c.crossing_of-2.ensures.value;
       high_right = rw (c.side-left.ensures, c.side-bottom.ensures) at c.crossing_of-3.ensures.value;
-      high_left = rw (c.side-bottom.ensures, c.side-right.ensures) at c.crossing_of-4.ensures.value
+      high_left = rw (c.side-bottom.ensures, c.side-right.ensures) at c.crossing_of-4.ensures.value;
     } in
     IfOk-weaker c.copied.result (λ copy. copy.items ≡ w ∷ x ∷ y ∷ z ∷ []) (λ corners. AreCorners [] corners.items)
-      (λ corners e. rw e (box_start w x y z k c.crossing_of.ensures.sized c.crossing_of-2.ensures.sized c.crossing_of-3.ensures.sized c.crossing_of-4.ensures.sized))
-      c.copied.ensures
+    (λ corners e. rw e (box_start w x y z k c.crossing_of.ensures.sized c.crossing_of-2.ensures.sized c.crossing_of-3.ensures.sized c.crossing_of-4.ensures.sized))
+    c.copied.ensures

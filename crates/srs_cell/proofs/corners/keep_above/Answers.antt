@@ -1,7 +1,8 @@
 use Rattle.std.proofs.Common.{◌≡◌, ◌+◌, ◌<◌, length, take, [], ◌∷◌, ◌++◌, ap, sym, ◌∙◌, pos, ◌<ℤ◌, ◌≤ℤ◌, arith}
 use Rattle.std.proofs.lemmas.Int.{ints}
 use Rattle.std.proofs.lemmas.List.{take_more}
-use Rattle.srs_cell.proofs.Keeping.{kept_push, kept_skip, above_from, below_from}
+use Rattle.srs_cell.proofs.Keeping.{kept_push, kept_skip}
+use Rattle.srs_cell.proofs.Signs.{at_least_by, below_by}
 use Rattle.srs_cell.proofs.corners.keep_above.Goals as goal
 use Rattle.srs_cell.proofs.corners.keep_above.Goals.{then-at_corner-ge0+in_ok-add_corner, else-at_corner-ge0}
 
@@ -14,9 +15,10 @@ loop-corner-preserved c =
     let within : i < length cs = omega arith in
     let e : take (i + 1) cs ≡ take i cs ++ x ∷ [] = take_more cs i x within ∙ ap (λ x. take i cs ++ x ∷ []) (sym c.corner-item.is) in
     rw e (elim c.if-at_corner-ge0.branch [
-        then-at_corner-ge0+in_ok-add_corner w ↦
+      | then-at_corner-ge0+in_ok-add_corner w ↦
           let up : pos 0 ≤ℤ c.at_corner.result = omega (arith, ints) in
-          rw (w.kept-is, w.in_ok-add_corner.ensures) (kept_push g (take i cs) c.loop-corner.kept.items x (above_from c.at_corner.result _ c.at_corner.ensures up) c.loop-corner.invariant)
+          rw (w.kept-is, w.in_ok-add_corner.ensures) (kept_push g (take i cs) c.loop-corner.kept.items x (at_least_by c.at_corner.result _ c.at_corner.ensures up) c.loop-corner.invariant)
       | else-at_corner-ge0 w ↦
           let low : c.at_corner.result <ℤ pos 0 = omega (arith, ints) in
-          rw w.kept-is (kept_skip g (take i cs) c.loop-corner.kept.items x (below_from c.at_corner.result _ c.at_corner.ensures low) c.loop-corner.invariant) ])
+          rw w.kept-is (kept_skip g (take i cs) c.loop-corner.kept.items x (below_by c.at_corner.result _ c.at_corner.ensures low) c.loop-corner.invariant)
+    ])

@@ -1,4 +1,4 @@
-use Rattle.std.proofs.Common.{◌≡◌, ◌<◌, ◌+◌, ℕ, List, length, take, sym, subst, arith}
+use Rattle.std.proofs.Common.{◌≡◌, ℕ, List, take, sym, subst, arith}
 use Rattle.srs_num.specs.Points.{LinearForm}
 use Rattle.srs_cell.specs.Corners.{boxed}
 use Rattle.srs_cell.specs.Cutting.{IsFirstEnd}

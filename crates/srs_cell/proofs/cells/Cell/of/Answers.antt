@@ -1,7 +1,6 @@
 use Rattle.std.proofs.Common.{◌≡◌, refl}
 use Rattle.std.proofs.lemmas.Bool.{false≢true}
 use Rattle.srs_num.specs.Lines.{sum_of}
-use Rattle.srs_cell.specs.Corners.{AreCorners}
 use Rattle.srs_cell.proofs.Areas.{no_point, no_corner, sum_inside}
 use Rattle.srs_cell.proofs.cells.Cell.of.Goals as goal
 
@@ -24,5 +23,5 @@ invariant_of-result c =
       corners = k;
       inside = rw s (sum_inside c.args.region cs k (rw s at (c.if-not-is_inside.ensures.0 refl)));
       count = c.in_ok-corners.ensures.count;
-      near = c.in_ok-corners.ensures.near
+      near = c.in_ok-corners.ensures.near;
     }

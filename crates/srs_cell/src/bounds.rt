@@ -1,0 +1,102 @@
+// The least and the greatest value of a form over a cell.
+ghost use Rattle.std.specs.Prelude.{◌≡◌, ◌≤◌, ◌^◌, ◌↔◌, IsTrue, All, length};
+ghost use Rattle.srs_num.specs.Points.{Point, value, IsNear, IsWithin, IsPointWithin};
+ghost use Rattle.srs_plane.specs.Regions.{IsIn};
+ghost use Rattle.srs_cell.specs.Bounds.{IsLow, IsHigh, IsBoundSized, IsLower, IsLeastCorner, IsLeastSum};
+
+use crate::Cell;
+use crate::cells::is_inside;
+use srs_num::{Corner, Form, is_less_quotient};
+
+/// The number `num / den`, with `den` at least 1, and whether a point takes it. The fraction isn't always reduced.
+#[derive(Clone, Copy, Debug, PartialEq, Eq, Drop)]
+pub struct Bound {
+    pub num: i128,
+    pub den: i128,
+    pub attained: bool,
+}
+
+impl Cell {
+    /// The infimum of the form over the points of the cell, and whether a point takes it. It takes no memory: it goes
+    /// over the at most 84 corners twice and over the at most 80 halves once.
+    pub fn low(&self, f: &Form) -> Bound
+        ensures low { IsLow self.now f.now result }
+        ensures sized { IsBoundSized result }
+        ensures near { (r : Point) → IsIn self.now r → IsNear r }
+    {
+        let corners = self.corners();
+        let least = least_corner(f, corners);
+        let total = least_sum(f, corners, &least);
+        let (_, _, den) = least.parts();
+        Bound {
+            num: value_at(f, &least),
+            den,
+            attained: is_inside(self.region(), &total),
+        }
+    }
+
+    /// The supremum of the form over the points of the cell, and whether a point takes it. It costs what `low` does.
+    pub fn high(&self, f: &Form) -> Bound
+        ensures high { IsHigh self.now f.now result }
+        ensures sized { IsBoundSized result }
+    {
+        let low = self.low(&f.opposite());
+        Bound {
+            num: -low.num,
+            den: low.den,
+            attained: low.attained,
+        }
+    }
+}
+
+// Whether the form is less at the corner than at the other one.
+fn is_lower(form: &Form, corner: &Corner, other: &Corner) -> bool
+    ensures { IsTrue result ↔ IsLower form.now corner.now other.now }
+{
+    let (_, _, d) = corner.parts();
+    let (_, _, e) = other.parts();
+    is_less_quotient(form.at_corner(corner), d, form.at_corner(other), e)
+}
+
+// The value of the form at a corner of a cell. It is at most 2^117 in magnitude.
+fn value_at(form: &Form, corner: &Corner) -> i128
+    requires { IsPointWithin (2 ^ 77) corner.now }
+    ensures value { result ≡ value form.now corner.now }
+    ensures sized { IsWithin (2 ^ 117) result }
+{
+    // The numbers of a form are at most 2^38 in magnitude.
+    let _ = form.parts();
+    form.at_corner(corner)
+}
+
+// The first of the corners at which the form is least.
+fn least_corner(form: &Form, corners: &[Corner]) -> Corner
+    requires some { 1 ≤ length corners.now }
+    requires sized { All (IsPointWithin (2 ^ 77)) corners.now }
+    ensures { IsLeastCorner form.now corners.now result }
+{
+    let mut least = corners[0];
+    for corner in corners {
+        if is_lower(form, corner, &least) {
+            least = *corner;
+        }
+    }
+    least
+}
+
+// The numbers of the corners at which the form is least added up: a point strictly within each half in which one of
+// them is. The one at `least` counts twice, which does no harm.
+fn least_sum(form: &Form, corners: &[Corner], least: &Corner) -> Corner
+    requires few { length corners.now ≤ 84 }
+    requires sized { All (IsPointWithin (2 ^ 77)) corners.now }
+    requires least { IsLeastCorner form.now corners.now least.now }
+    ensures { IsLeastSum form.now corners.now corners.now least.now result }
+{
+    let mut total = *least;
+    for corner in corners {
+        if !is_lower(form, least, corner) {
+            total = total.plus(corner);
+        }
+    }
+    total
+}

@@ -1,0 +1,8 @@
+//! Worked examples of the library calls: each call once with ample memory, its answer compared with a value from
+//! outside. A table a subject.
+#![tactic(auto)]
+
+#[cfg(test)]
+mod orbits;
+#[cfg(test)]
+mod polygons;

@@ -1,0 +1,4 @@
+pub mod Growing
+pub mod RingLaws
+pub mod OutlineLaws
+pub mod PolygonTexts

@@ -1,0 +1,127 @@
+// Reads the text of a polygon.
+ghost use Rattle.std.specs.Prelude.{List, ℕ, ◌≡◌, ◌+◌, ◌^◌, ◌<◌, ◌↔◌, IsTrue, OnOk, IfOk, IfErr, length};
+ghost use Rattle.srs_plane.specs.declared.polygons.Vertex.{Vertex};
+ghost use Rattle.srs_plane.specs.Polygons.{region_of};
+ghost use Rattle.srs_line.specs.declared.slip.Slip.{Slip};
+ghost use Rattle.srs_line.specs.Refusal.{IsSlip};
+ghost use Rattle.srs_file.specs.Grammar.{SpellsPolygon};
+ghost use Rattle.srs_file.specs.Ring.{SlipsOpen};
+ghost use Rattle.srs_file.specs.Outline.{start, StepsHead, StepsVertices, SlipsVertices, ReadsAs, FirstSlip, IsRefusal, IsOutside};
+
+use crate::Ring;
+use srs_line::{FileErr, LineErr, LineMachine, Slip, never_both, one_slip, read_lines, read_once};
+use srs_plane::{Region, Vertices};
+use std::alloc::Global;
+
+/// A polygon: its vertices, and its region.
+#[derive(Drop)]
+pub struct Outline {
+    pub vertices: Vertices,
+    pub region: Region,
+}
+
+/// What a reader of a polygon waits for: the number of vertices, a vertex or the last line, or nothing.
+#[derive(Clone, Copy, Debug, PartialEq, Eq)]
+pub enum Phase {
+    Head,
+    Vertices,
+    Done,
+}
+
+/// A reader of the text of a polygon, which takes it line by line.
+#[derive(Drop)]
+pub struct PolygonReader {
+    pub phase: Phase,
+    pub ring: Ring,
+}
+
+impl PolygonReader {
+    /// A reader before the first line. It takes no memory.
+    pub fn new(alloc: Global) -> PolygonReader
+        ensures { result ≡ start }
+    {
+        PolygonReader {
+            phase: Phase::Head,
+            ring: Ring::new(alloc),
+        }
+    }
+
+    fn head(&mut self, line: &[u8]) -> Result<(), LineErr>
+        ensures ok { OnOk result (StepsHead self.old line.now self.new) }
+        ensures err { IfErr result (IsSlip (SlipsOpen line.now)) }
+    {
+        match self.ring.open(line) {
+            Ok(()) => {
+                self.phase = Phase::Vertices;
+                Ok(())
+            }
+            Err(e) => Err(e),
+        }
+    }
+
+    fn vertex(&mut self, line: &[u8]) -> Result<(), LineErr>
+        ensures ok { OnOk result (StepsVertices self.old line.now self.new) }
+        ensures err { IfErr result (IsSlip (SlipsVertices self.old line.now)) }
+    {
+        if self.ring.wants_more() {
+            return self.ring.take(line);
+        }
+        if line != b"end".as_slice() {
+            return Err(LineErr::Slip(Slip::Word, 0));
+        }
+        self.phase = Phase::Done;
+        Ok(())
+    }
+}
+
+impl LineMachine for PolygonReader {
+    ghost use Rattle.srs_file.specs.Outline.{Steps, Slips, IsEnd};
+
+    ghost steps = { Steps };
+
+    ghost slips = { Slips };
+
+    ghost is_end = { IsEnd };
+
+    fn is_done(&self) -> bool {
+        self.phase == Phase::Done
+    }
+
+    fn take(&mut self, line: &[u8]) -> Result<(), LineErr> {
+        match self.phase {
+            Phase::Head => self.head(line),
+            Phase::Vertices => self.vertex(line),
+            Phase::Done => unreachable!(),
+        }
+    }
+}
+
+/// The polygon that the text spells, or the first slip of the text, its lines counted from 1. The text is shorter than
+/// 2^32 - 1 bytes.
+pub fn read_polygon(alloc: Global, text: &[u8]) -> Result<Outline, FileErr>
+    requires { length text.now + 1 < 2 ^ 32 }
+    ensures accepted { IfOk result (λ o. SpellsPolygon text.now o.vertices × (o.region ≡ region_of o.vertices)) }
+    ensures refused { IfErr result (IsRefusal text.now) }
+    ensures outside { IfErr result (IsOutside text.now) }
+{
+    let mut reader = PolygonReader::new(alloc);
+    read_lines(&mut reader, text)?;
+    match reader.ring.outline() {
+        Some(outline) => Ok(outline),
+        None => unreachable!(),
+    }
+}
+
+/// A text is that of a polygon or has a first slip, never both; it has one first slip, and spells one list of vertices;
+/// and it is read as these vertices exactly where it spells them.
+pub fn one_polygon()
+    ensures never_both { (text : List ℕ) (vs : List Vertex) (line : ℕ) (slip : Slip) → SpellsPolygon text vs → FirstSlip text line slip → ⊥ }
+    ensures one_slip { (text : List ℕ) (m n : ℕ) (d e : Slip) → FirstSlip text m d → FirstSlip text n e → (m ≡ n) × (d ≡ e) }
+    ensures one_list { (text : List ℕ) (vs ws : List Vertex) → SpellsPolygon text vs → SpellsPolygon text ws → vs ≡ ws }
+    ensures spelled { (text : List ℕ) (vs : List Vertex) → ReadsAs text vs → SpellsPolygon text vs }
+    ensures read { (text : List ℕ) (vs : List Vertex) → SpellsPolygon text vs → ReadsAs text vs }
+{
+    never_both::<PolygonReader>();
+    one_slip::<PolygonReader>();
+    read_once::<PolygonReader>();
+}

@@ -1,0 +1,139 @@
+// A ring of vertices, read line by line.
+ghost use Rattle.std.specs.Prelude.{◌≡◌, ◌<◌, ◌++◌, ◌↔◌, [], ◌∷◌, IsTrue, IfOk, IfErr, OnOk, IfSome, IfNone, Some, None};
+ghost use Rattle.std.specs.List.{All};
+ghost use Rattle.srs_plane.specs.Placed.{IsPlaced};
+ghost use Rattle.srs_plane.specs.Polygons.{IsCounted, IsPolygon, region_of};
+ghost use Rattle.srs_line.specs.Refusal.{IsSlip};
+ghost use Rattle.srs_file.specs.Ring.{Opens, SlipsOpen, Adds, SlipsAdd, TakesVertex, SlipsVertex, IsTurn};
+
+use crate::Outline;
+use crate::vertex::vertex;
+use srs_line::{LineErr, Slip, count_of};
+use srs_plane::{PolyErr, Region, Vertex, Vertices, polygon};
+use std::alloc::Global;
+use std::marker::Model;
+
+/// A ring of vertices while its lines are read: how many are still to come, those that came, and the region once all
+/// of them are there.
+#[derive(Drop)]
+pub struct Ring {
+    alloc: Global,
+    left: u32,
+    vertices: Vertices,
+    region: Option<Region>,
+}
+
+impl Model for Ring {
+    ghost use Rattle.srs_file.specs.Ring.{RingView, IsGrowing};
+
+    ghost Value = { RingView };
+
+    ghost view = { λ r. record { left = r.left; vertices = r.vertices; region = r.region } };
+
+    ghost invariant = { λ r. IsGrowing r.left r.vertices };
+}
+
+impl Ring {
+    /// No vertex, and none to come. It takes no memory.
+    pub fn new(alloc: Global) -> Ring
+        ensures { result ≡ record { left = 0; vertices = []; region = None } }
+    {
+        Ring {
+            alloc,
+            left: 0,
+            vertices: Vertices::new(alloc),
+            region: None,
+        }
+    }
+
+    /// Whether a vertex is still to come.
+    pub fn wants_more(&self) -> bool
+        ensures { IsTrue result ↔ (0 < self.now.left) }
+    {
+        self.left > 0
+    }
+
+    /// Begins anew with the line that says how many vertices come. An `Err` changes nothing.
+    pub fn open(&mut self, line: &[u8]) -> Result<(), LineErr>
+        ensures ok { OnOk result (Opens line.now self.new) }
+        ensures err { IfErr result (IsSlip (SlipsOpen line.now)) }
+    {
+        match count_of(line, b"polygon", 3, 16, Slip::Count) {
+            Ok(n) => {
+                *self = Ring {
+                    alloc: self.alloc,
+                    left: n,
+                    vertices: Vertices::new(self.alloc),
+                    region: None,
+                };
+                Ok(())
+            }
+            Err(slip) => Err(LineErr::Slip(slip, 0)),
+        }
+    }
+
+    /// Takes the line of the next vertex; with that of the last one it makes the region. An `Err` may leave any ring.
+    pub fn take(&mut self, line: &[u8]) -> Result<(), LineErr>
+        requires { 0 < self.old.left }
+        ensures ok { OnOk result (TakesVertex self.old line.now self.new) }
+        ensures err { IfErr result (IsSlip (SlipsVertex self.old line.now)) }
+    {
+        match vertex(line) {
+            Ok(vertex) => self.add(vertex),
+            Err(slip) => Err(LineErr::Slip(slip, 0)),
+        }
+    }
+
+    fn add(&mut self, vertex: Vertex) -> Result<(), LineErr>
+        requires more { 0 < self.old.left }
+        requires placed { IsPlaced vertex }
+        ensures ok { OnOk result (Adds self.old vertex self.new) }
+        ensures err { IfErr result (IsSlip (SlipsAdd self.old vertex)) }
+    {
+        let Ok(()) = self.vertices.push(vertex) else {
+            return Err(LineErr::NoMemory);
+        };
+        self.left -= 1;
+        if self.left == 0 {
+            self.region = Some(enclosed(self.alloc, &self.vertices)?);
+        }
+        Ok(())
+    }
+
+    /// The vertices with their region, once all of them are there.
+    pub fn outline(self) -> Option<Outline>
+        ensures vertices { IfSome result (λ o. o.vertices ≡ self.vertices) }
+        ensures region { IfSome result (λ o. self.region ≡ Some o.region) }
+        ensures none { IfNone result (self.region ≡ None) }
+    {
+        let Ring {
+            alloc: _,
+            left: _,
+            vertices,
+            region,
+        } = self;
+        match region {
+            Some(region) => Some(Outline { vertices, region }),
+            None => None,
+        }
+    }
+}
+
+// The region of the vertices, each of which is in its range. A wrong turn points back to its vertex's line.
+fn enclosed(alloc: Global, vertices: &Vertices) -> Result<Region, LineErr>
+    requires placed { All IsPlaced vertices.now }
+    requires counted { IsCounted vertices.now }
+    ensures ok { IfOk result (λ region. region ≡ region_of vertices.now) }
+    ensures polygon { OnOk result (IsPolygon vertices.now) }
+    ensures err { IfErr result (IsSlip (IsTurn vertices.now)) }
+{
+    match polygon(alloc, vertices.as_slice()) {
+        Ok(region) => Ok(region),
+        Err(PolyErr::Turn(i)) => Err(LineErr::Slip(
+            Slip::Turn,
+            (vertices.len() - 1).saturating_sub(i as u64),
+        )),
+        Err(PolyErr::NoMemory) => Err(LineErr::NoMemory),
+        Err(PolyErr::Few | PolyErr::Many | PolyErr::Big(_) | PolyErr::Far(_)) => unreachable!(),
+    }
+}

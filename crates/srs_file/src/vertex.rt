@@ -1,0 +1,93 @@
+// The line of a vertex.
+ghost use Rattle.std.specs.Prelude.{◌≡◌, ◌↔◌, [], ◌∷◌, IsTrue, IfOk, IfErr, IfSome, IfNone};
+ghost use Rattle.srs_plane.specs.declared.halves.Kind.{Kind};
+ghost use Rattle.srs_plane.specs.Placed.{IsPlaced};
+ghost use Rattle.srs_plane.specs.Polygons.{IsShallow, point_of};
+ghost use Rattle.srs_num.specs.Points.{IsNear};
+ghost use Rattle.srs_line.specs.Fields.{HasWord, Says, IsFieldSlip};
+ghost use Rattle.srs_file.specs.Texts.{kind_word};
+ghost use Rattle.srs_file.specs.Ring.{SaysVertex, IsVertexSlip};
+
+use srs_line::{Slip, has_word, three};
+use srs_num::Pt;
+use srs_plane::{Kind, Vertex};
+
+// Reads the line of a vertex. It takes no memory.
+pub(crate) fn vertex(line: &[u8]) -> Result<Vertex, Slip>
+    ensures ok { IfOk result (λ v. SaysVertex v line.now) }
+    ensures err { IfErr result (IsVertexSlip line.now) }
+{
+    let Some(kind) = kind_of(line) else {
+        return Err(Slip::Word);
+    };
+    let vertex = match corner(line, kind) {
+        Ok(vertex) => vertex,
+        Err(slip) => return Err(slip),
+    };
+    if !is_placed(&vertex) {
+        return Err(Slip::Range);
+    }
+    Ok(vertex)
+}
+
+// The kind whose word begins the line.
+fn kind_of(line: &[u8]) -> Option<Kind>
+    ensures some { IfSome result (λ kind. HasWord (kind_word kind) line.now) }
+    ensures none { IfNone result ((kind : Kind) → HasWord (kind_word kind) line.now → ⊥) }
+{
+    if has_word(line, b"ge") {
+        return Some(Kind::Ge);
+    }
+    if has_word(line, b"gt") {
+        return Some(Kind::Gt);
+    }
+    None
+}
+
+// Reads the line as the kind's word and three numbers, in whatever range.
+fn corner(line: &[u8], kind: Kind) -> Result<Vertex, Slip>
+    ensures kind { IfOk result (λ v. v.kind ≡ kind) }
+    ensures ok { IfOk result (λ v. Says (kind_word kind) (v.p ∷ v.q ∷ v.d ∷ []) line.now) }
+    ensures err { IfErr result (IsFieldSlip (kind_word kind) 3 line.now) }
+{
+    match three(line, word_of(kind)) {
+        Ok((p, q, d)) => Ok(Vertex { p, q, d, kind }),
+        Err(slip) => Err(slip),
+    }
+}
+
+/// The word that begins the line of a vertex.
+pub fn word_of(kind: Kind) -> &'static [u8]
+    ensures { result.now ≡ kind_word kind }
+{
+    match kind {
+        Kind::Ge => b"ge",
+        Kind::Gt => b"gt",
+    }
+}
+
+// Whether the denominator is 1 to 65536 and both coordinates are at most 4 in magnitude.
+fn is_placed(v: &Vertex) -> bool
+    ensures { IsTrue result ↔ IsPlaced v.now }
+{
+    if !is_shallow(v) {
+        return false;
+    }
+    is_near(v)
+}
+
+fn is_shallow(v: &Vertex) -> bool
+    ensures { IsTrue result ↔ IsShallow v.now }
+{
+    1 <= v.d && v.d <= 65536
+}
+
+fn is_near(v: &Vertex) -> bool
+    requires { IsShallow v.now }
+    ensures { IsTrue result ↔ IsNear (point_of v.now) }
+{
+    match Pt::new(v.p, v.q, v.d) {
+        Some(r) => r.near(),
+        None => false,
+    }
+}
