@@ -129,7 +129,6 @@ last (suc j) = refl
 pub no_more : (n : ℕ) (ms : List (Option ℕ)) → HasNoMarks n ms → HasNoMarks (n + 1) (ms ++ None ∷ [])
 no_more n ms a = record { len = omega (arith, length-append ms (None ∷ []), a.len); none = none }
   where
-
     none : (i : ℕ) → mark_at (ms ++ None ∷ []) i ≡ None
     none i = elim (dec_lt i (length ms)) as (λ _. mark_at (ms ++ None ∷ []) i ≡ None) [
       | yes l ↦ get_or_append_left ms (None ∷ []) None i l ∙ a.none i
@@ -163,4 +162,3 @@ no_some (Some n) e = absurd (true≢false e)
 pub not_both : (o : Option ℕ) → o ≡ None → is_some o ≡ true → ⊥
 not_both None e f = true≢false (sym f)
 not_both (Some n) e f = let s : Some n ≡ None = e in absurd (true≢false (ap is_some s))
-

@@ -1,5 +1,5 @@
 -- What the marks of a peeled graph say of the region.
-use Rattle.std.proofs.Common.{◌≡◌, ◌≢◌, ℕ, zero, suc, ◌<◌, ◌≤◌, List, [], ◌∷◌, length, Bool, true, false, true≢false, Option, None, Some, arith, ap, subst, sym, ◌∙◌, refl, get_or}
+use Rattle.std.proofs.Common.{◌≡◌, ◌≢◌, ℕ, zero, suc, ◌<◌, ◌≤◌, List, length, Bool, true, false, true≢false, Option, None, Some, arith, ap, subst, sym, ◌∙◌, refl}
 use Rattle.std.proofs.Math.Decide.{dec_lt}
 use Rattle.std.proofs.lemmas.List.{get_or_past, get_or_default}
 use Rattle.srs_num.specs.declared.pairs.V2.{V2}
@@ -79,4 +79,3 @@ module _ (R : Area) (ps : List V2) (rows : List Row) (ms : List (Option ℕ)) (g
   all_marked_empty f w c =
       let t = core_open w c in
       let x = f t.0 t.1 in none_some (sym t.3 ∙ x.1)
-

@@ -1,5 +1,5 @@
 -- How the core and the ranks are listed.
-use Rattle.std.proofs.Common.{◌≡◌, inl, inr, ℕ, zero, suc, ◌+◌, ◌<◌, List, [], ◌∷◌, ◌++◌, length, Option, None, Some, arith, ap, subst, sym, ◌∙◌, refl, get_or, length-append, lit<, map, ℤ, pos, unsigned_abs, ◌≤◌, ◌≤ℤ◌}
+use Rattle.std.proofs.Common.{◌≡◌, inl, inr, ℕ, ◌+◌, ◌<◌, List, [], ◌∷◌, ◌++◌, length, Option, None, Some, arith, ap, subst, sym, ◌∙◌, refl, get_or, length-append, lit<, map, ℤ, pos, unsigned_abs, ◌≤◌, ◌≤ℤ◌}
 use Rattle.std.proofs.lemmas.Int.{ints}
 use Rattle.std.specs.Prelude.{Contains, AllPairs, is_some, true, IfSome, IfNone, MatchOption}
 use Rattle.std.proofs.Common.{true≢false}
@@ -52,7 +52,7 @@ module _ (ps : List V2) (ms : List (Option ℕ)) where
     all = λ i l f. elim (dec_lt i k) as (λ _. Contains (ws ++ w ∷ []) (pair_at ps i)) [
       | yes m ↦ Contains-append_left ws (w ∷ []) (pair_at ps i) (p.all i m f)
       | no m ↦ let t : k ≡ i = omega arith in
-        subst (Contains (ws ++ w ∷ [])) (s ∙ ap (pair_at ps) t) (Contains-append_right ws (w ∷ []) w (0, lit< tt, refl))
+          subst (Contains (ws ++ w ∷ [])) (s ∙ ap (pair_at ps) t) (Contains-append_right ws (w ∷ []) w (0, lit< tt, refl))
     ];
   }
     where
@@ -144,7 +144,6 @@ picked_along ps ms k a b e p = subst (AreOpenPairs ps ms k) (sym e) p
 pub some_of : (o : Option ℕ) → is_some o ≡ true → (n : ℕ) × (o ≡ Some n)
 some_of None e = absurd (true≢false (sym e))
 some_of (Some n) e = (n, refl)
-
 
 -- a place with no mark is in the core
 pub open_has_core : (R : Area) (ps : List V2) (rows : List Row) (ms : List (Option ℕ)) → IsGraph R (network ps rows) → AreRows (length ps) rows → IsPeeled ps rows ms → HasOpenPlace ms → HasCore R

@@ -8,7 +8,7 @@ use Rattle.std.proofs.lemmas.Int.{ints}
 use Rattle.std.proofs.lemmas.List.Elements.{Contains-get_or}
 use Rattle.srs_num.specs.declared.pairs.V2.{V2}
 use Rattle.srs_map.specs.Step.{pair, origin, step_of}
-use Rattle.srs_plane.specs.Regions.{Area, IsIn, HasPoint}
+use Rattle.srs_plane.specs.Regions.{Area, HasPoint}
 use Rattle.srs_path.specs.Witnesses.{IsWitness, HasEdge, unit, link, IsSmall}
 use Rattle.srs_map.specs.Links.{right}
 use Rattle.srs_path.specs.Core.{Precedes}
@@ -61,12 +61,12 @@ module _ (R : Area) (ps : List V2) (w : V2) (low high : ℤ) (n : ℕ) (a : AreA
         let v : Precedes (pair b y) (pair b x) = subst (λ (z : V2). Precedes z (pair b x)) et (subst (Precedes (pair_at ps t)) ei u) in
         absurd (omega (arith, ints, v.1 refl)))
     | yes g ↦ elim (dec_lt (i + 1) t) as (λ _. t ≡ i + 1) [
-        | no q ↦ omega arith
-        | yes q ↦
+      | no q ↦ omega arith
+      | yes q ↦
           let u : Precedes (pair b x) (pair_at ps (i + 1)) = subst (λ (z : V2). Precedes z (pair_at ps (i + 1))) ei (a.ascending i (i + 1) origin (omega arith) (omega arith)) in
           let v : Precedes (pair_at ps (i + 1)) (pair b y) = subst (Precedes (pair_at ps (i + 1))) et (a.ascending (i + 1) t origin q lt) in
           absurd (between (pair_at ps (i + 1)) u v)
-      ]
+    ]
   ]
     where
       between : (z : V2) → Precedes (pair b x) z → Precedes z (pair b y) → ⊥
@@ -133,7 +133,7 @@ module _ (R : Area) (ps : List V2) where
     each = λ i h. elim (dec_lt i k) as (λ _. IsRowOf R ps (pair_at ps i) (row_at (rows ++ r ∷ []) i)) [
       | yes l ↦ subst (IsRowOf R ps (pair_at ps i)) (sym (get_or_append_left rows (r ∷ []) no_row i (omega (arith, p.len)))) (p.each i l)
       | no l ↦ let t : k ≡ i = omega arith in
-        subst (IsRowOf R ps (pair_at ps i)) (sym (new i t)) (subst (λ (v : V2). IsRowOf R ps v r) (s ∙ ap (pair_at ps) t) e)
+          subst (IsRowOf R ps (pair_at ps i)) (sym (new i t)) (subst (λ (v : V2). IsRowOf R ps v r) (s ∙ ap (pair_at ps) t) e)
     ];
   }
     where
@@ -166,7 +166,6 @@ module _ (R : Area) (ps : List V2) where
 abbrev pub IsBetween : List V2 → V2 → ℕ → ℕ → Type 0
 IsBetween ps v lo hi = (t : ℕ) → t < length ps → pair_at ps t ≡ v → (lo ≤ t) × (t < hi)
 
-
 module _ (ps : List V2) (v : V2) (s : AllPairs Precedes ps) (lo hi mid : ℕ) (b : IsBetween ps v lo hi) (x : V2) (l : mid < length ps) (e : x ≡ pair_at ps mid) where
   pub go_low : Precedes v x → IsBetween ps v lo mid
   go_low f t h q = let p = b t h q in (p.0, at_low)
@@ -187,8 +186,8 @@ module _ (ps : List V2) (v : V2) (s : AllPairs Precedes ps) (lo hi mid : ℕ) (b
       at_high : mid ≤ t
       at_high = elim (dec_lt t mid) as (λ _. mid ≤ t) [
         | yes g ↦ let u : Precedes v x = subst (Precedes v) (sym e) (subst (λ (y : V2). Precedes y (pair_at ps mid)) q (s t mid origin g l)) in
-          let k : x.a ≡ v.a = omega (arith, ints, u.0, f.0) in
-          absurd (omega (arith, ints, u.1 (sym k), f.1 k))
+            let k : x.a ≡ v.a = omega (arith, ints, u.0, f.0) in
+            absurd (omega (arith, ints, u.1 (sym k), f.1 k))
         | no g ↦ omega arith
       ]
 
@@ -198,4 +197,3 @@ found_place ps v lo hi b c g =
     let p = b c.0 c.1 q in
     let e : c.0 ≡ lo = omega (arith, p.0, p.1) in
     (omega (arith, c.1), subst (λ (t : ℕ). pair_at ps t ≡ v) e q)
-

@@ -20,7 +20,7 @@ use Rattle.srs_path.specs.Cutout.{entry_at}
 use Rattle.srs_path.specs.Lists.{IsCycle}
 use Rattle.srs_graph.specs.declared.rows.Row.{Row}
 use Rattle.srs_graph.specs.Networks.{pair_at, row_at, AreRows, network, IsNetwork, IsGraph}
-use Rattle.srs_graph.specs.Marks.{mark_at, unmarked, IsPeeled, LeadsOn, HasNoMarks}
+use Rattle.srs_graph.specs.Marks.{mark_at, IsPeeled, LeadsOn, HasNoMarks}
 use Rattle.srs_graph.specs.Walks.{IsFirstOpen, AreAllMarked, IsStep, LeadOn, step_at, Walk, IsRound, first_entries}
 use Rattle.srs_graph.proofs.Marking.{by_eq, count_less, unmarked_all}
 use Rattle.srs_graph.proofs.Meaning.{core_open, open_in_core, none_some}
@@ -48,22 +48,22 @@ module _ (R : Area) (ps : List V2) (rows : List Row) (ms : List (Option ℕ)) (g
   least_start i f = record {
     has = open_in_core R ps rows ms g a d i (omega (arith, f.below, d.marks.len)) f.no_mark;
     least = λ v c. let t = core_open R ps rows ms g a d v c in
-    elim (dec_lt t.0 i) as (λ _. NotAfter (pair_at ps i) v) [
-      | yes h ↦ absurd (f.first t.0 (omega arith) h t.3)
-      | no h ↦ subst (NotAfter (pair_at ps i)) t.2 (in_order ps g.witnesses.ascending i t.0 (omega arith) t.1)
-    ];
+        elim (dec_lt t.0 i) as (λ _. NotAfter (pair_at ps i) v) [
+          | yes h ↦ absurd (f.first t.0 (omega arith) h t.3)
+          | no h ↦ subst (NotAfter (pair_at ps i)) t.2 (in_order ps g.witnesses.ascending i t.0 (omega arith) t.1)
+        ];
   }
 
   least_step : (i j : ℕ) → i < length ps → IsStep rows ms i j → IsLeast (λ v. IsInCore R v × HasEdge R (pair_at ps i) v) (pair_at ps j)
   least_step i j h f = record {
     has = (open_in_core R ps rows ms g a d j (omega (arith, f.below, a.within i h)) f.no_mark, g.each i j h (f.above, f.below));
     least = λ v c. let t = core_open R ps rows ms g a d v c.0 in
-    let x = g.all i v h c.1 in
-    let e : t.0 ≡ x.0 = same_place ps g.witnesses.ascending t.0 x.0 t.1 (omega (arith, x.1.1, a.within i h)) (t.2 ∙ sym x.2) in
-    elim (dec_lt x.0 j) as (λ _. NotAfter (pair_at ps j) v) [
-      | yes k ↦ absurd (f.first x.0 x.1.0 k (subst (λ (n : ℕ). mark_at ms n ≡ None) e t.3))
-      | no k ↦ subst (NotAfter (pair_at ps j)) x.2 (in_order ps g.witnesses.ascending j x.0 (omega arith) (omega (arith, x.1.1, a.within i h)))
-    ];
+        let x = g.all i v h c.1 in
+        let e : t.0 ≡ x.0 = same_place ps g.witnesses.ascending t.0 x.0 t.1 (omega (arith, x.1.1, a.within i h)) (t.2 ∙ sym x.2) in
+        elim (dec_lt x.0 j) as (λ _. NotAfter (pair_at ps j) v) [
+          | yes k ↦ absurd (f.first x.0 x.1.0 k (subst (λ (n : ℕ). mark_at ms n ≡ None) e t.3))
+          | no k ↦ subst (NotAfter (pair_at ps j)) x.2 (in_order ps g.witnesses.ascending j x.0 (omega arith) (omega (arith, x.1.1, a.within i h)))
+        ];
   }
 
   -- the walk came back to the place that it met at `from`
@@ -144,18 +144,18 @@ module _ (rows : List Row) (ms : List (Option ℕ)) (path : List ℕ) (at : ℕ)
   go : (k : ℕ) → k < length path + 1 → IsStep rows ms (step_at (path ++ at ∷ []) step_of k) (step_at (path ++ at ∷ []) step_of (k + 1))
   go k h = elim (dec_lt k (length path)) as (λ _. IsStep rows ms (step_at (path ++ at ∷ []) step_of k) (step_at (path ++ at ∷ []) step_of (k + 1))) [
     | yes l ↦ subst (λ (x : ℕ). IsStep rows ms x (step_at (path ++ at ∷ []) step_of (k + 1))) (sym (same k h))
-      (subst (IsStep rows ms (step_at path at k)) (sym (same (k + 1) (omega arith))) (w.go k l))
+        (subst (IsStep rows ms (step_at path at k)) (sym (same (k + 1) (omega arith))) (w.go k l))
     | no l ↦ let q : length path ≡ k = omega arith in
-      subst (λ (x : ℕ). IsStep rows ms (step_at (path ++ at ∷ []) step_of x) (step_at (path ++ at ∷ []) step_of (x + 1))) q
-      (subst (λ (x : ℕ). IsStep rows ms x (step_at (path ++ at ∷ []) step_of (length path + 1))) (sym (same (length path) (omega arith) ∙ at_last))
-      (subst (IsStep rows ms at) (sym new_last) s))
+        subst (λ (x : ℕ). IsStep rows ms (step_at (path ++ at ∷ []) step_of x) (step_at (path ++ at ∷ []) step_of (x + 1))) q
+        (subst (λ (x : ℕ). IsStep rows ms x (step_at (path ++ at ∷ []) step_of (length path + 1))) (sym (same (length path) (omega arith) ∙ at_last))
+        (subst (IsStep rows ms at) (sym new_last) s))
   ]
 
   marked : (k : ℕ) → k < length path + 1 → mark_at (set met at (Some (length path))) (step_at (path ++ at ∷ []) step_of k) ≡ Some k
   marked k h = ap (mark_at (set met at (Some (length path)))) (same k h) ∙ elim (dec_lt k (length path)) as (λ _. mark_at (set met at (Some (length path))) (step_at path at k) ≡ Some k) [
     | yes l ↦ get_or-set_other met at (step_at path at k) (Some (length path)) None (λ q. none_some (sym e ∙ sym (ap (mark_at met) q) ∙ w.marked k l)) ∙ w.marked k l
     | no l ↦ let q : k ≡ length path = omega arith in
-      ap (mark_at (set met at (Some (length path)))) (ap (step_at path at) q ∙ at_last) ∙ get_or-set_same met at (Some (length path)) None in_met ∙ ap (λ (n : ℕ). Some n) (sym q)
+        ap (mark_at (set met at (Some (length path)))) (ap (step_at path at) q ∙ at_last) ∙ get_or-set_same met at (Some (length path)) None in_met ∙ ap (λ (n : ℕ). Some n) (sym q)
   ]
 
   back : (j k : ℕ) → mark_at (set met at (Some (length path))) j ≡ Some k → (k < length path + 1) × (step_at (path ++ at ∷ []) step_of k ≡ j)
@@ -201,8 +201,8 @@ pub entries_more : (ps : List V2) (path : List ℕ) (from k : ℕ) (es : List �
 entries_more ps path from k es a e s = record {
   above = omega (arith, e.above);
   is = let z : from + (k - from) ≡ k = omega (arith, e.above) in
-  let t : (k - from) + 1 ≡ k + 1 - from = omega (arith, e.above) in
-  ap₂ (λ (x : List ℤ) (b : ℤ). x ++ b ∷ []) e.is (s ∙ sym (ap (λ (i : ℕ). (pair_at ps (get_or path i 0)).a) z)) ∙ sym (listed_more ps path from (k - from)) ∙ ap (first_entries ps path from) t;
+      let t : (k - from) + 1 ≡ k + 1 - from = omega (arith, e.above) in
+      ap₂ (λ (x : List ℤ) (b : ℤ). x ++ b ∷ []) e.is (s ∙ sym (ap (λ (i : ℕ). (pair_at ps (get_or path i 0)).a) z)) ∙ sym (listed_more ps path from (k - from)) ∙ ap (first_entries ps path from) t;
 }
 
 -- the path alone, and the path with its end, are read alike
@@ -239,7 +239,6 @@ num_read path k n h e = e ∙ get_or_default path k n 0 h
 pub entries_along : (ps : List V2) (path : List ℕ) (from k : ℕ) (a b : List ℤ) → a ≡ b → Entries ps path from k b → Entries ps path from k a
 entries_along ps path from k a b e p = subst (Entries ps path from k) (sym e) p
 
-
 pub round_short : (rows : List Row) (ms : List (Option ℕ)) (path : List ℕ) (from : ℕ) → IsRound rows ms path from → (from < length path) × (length path ≤ length ms)
 round_short rows ms path from r = let b = r.walk.back r.at from r.back in (omega (arith, b.0), omega (arith, r.walk.short, r.walk.len))
 
@@ -272,14 +271,14 @@ module _ (R : Area) (ps : List V2) (rows : List Row) (n : IsNetwork (network ps 
   second_entry : entry_at c 1 ≡ (u.z u.from).b
   second_entry = elim (dec_lt 1 u.period) as (λ _. entry_at c 1 ≡ (u.z u.from).b) [
     | yes h ↦
-      let l : 1 < length c = omega (arith, len, h) in
-      let z : 1 % length c ≡ 1 = mod-eq_of_lt l in
-      ap (λ (i : ℕ). get_or c i (pos 0)) z ∙ entry 1 (pos 0) h ∙ sym following
+        let l : 1 < length c = omega (arith, len, h) in
+        let z : 1 % length c ≡ 1 = mod-eq_of_lt l in
+        ap (λ (i : ℕ). get_or c i (pos 0)) z ∙ entry 1 (pos 0) h ∙ sym following
     | no h ↦
-      let p : u.period ≡ 1 = omega (arith, u.some_step) in
-      let z : 1 % length c ≡ 0 = omega (arith, len, p) in
-      ap (λ (i : ℕ). get_or c i (pos 0)) z ∙ entry 0 (pos 0) u.some_step ∙ ap (λ (k : ℕ). (u.z k).a) (add-zero u.from)
-      ∙ ap (λ (v : V2). v.a) (sym u.met_twice) ∙ ap (λ (k : ℕ). (u.z (u.from + k)).a) p ∙ sym following
+        let p : u.period ≡ 1 = omega (arith, u.some_step) in
+        let z : 1 % length c ≡ 0 = omega (arith, len, p) in
+        ap (λ (i : ℕ). get_or c i (pos 0)) z ∙ entry 0 (pos 0) u.some_step ∙ ap (λ (k : ℕ). (u.z k).a) (add-zero u.from)
+        ∙ ap (λ (v : V2). v.a) (sym u.met_twice) ∙ ap (λ (k : ℕ). (u.z (u.from + k)).a) p ∙ sym following
   ]
 
   pub chosen_is_cycle : length c ≤ 16384 → IsCycle c

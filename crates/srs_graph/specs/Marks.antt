@@ -1,5 +1,5 @@
 -- Marks on the pairs of a graph: a rank, or none yet.
-use Rattle.std.specs.Prelude.{◌≡◌, ◌≢◌, ℕ, ◌+◌, ◌<◌, ◌≤◌, List, length, slice_index_or, Option, None, Some, is_none, count_by}
+use Rattle.std.specs.Prelude.{◌≡◌, ◌≢◌, ℕ, ◌+◌, ◌<◌, List, length, slice_index_or, Option, None, Some, is_none, count_by}
 use Rattle.srs_num.specs.declared.pairs.V2.{V2}
 use Rattle.srs_map.specs.Step.{origin}
 use Rattle.srs_graph.specs.declared.rows.Row.{Row}

@@ -21,7 +21,11 @@ pub(crate) fn copied(alloc: Global, pairs: &[V2]) -> Result<Pairs, NoMemory>
 }
 
 // The pairs with no mark, in their order.
-pub(crate) fn open_pairs(alloc: Global, pairs: &[V2], marks: &[Option<u32>]) -> Result<Pairs, NoMemory>
+pub(crate) fn open_pairs(
+    alloc: Global,
+    pairs: &[V2],
+    marks: &[Option<u32>],
+) -> Result<Pairs, NoMemory>
     requires { length pairs.now ≡ length marks.now }
     ensures { IfOk result (AreOpenPairs pairs.now marks.now (length marks.now)) }
 {

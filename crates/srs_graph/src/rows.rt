@@ -9,8 +9,8 @@ ghost use Rattle.srs_path.specs.ChosenCycle.{NotAfter};
 ghost use Rattle.srs_wit.specs.Listing.{AreAllWitnesses};
 ghost use Rattle.srs_graph.specs.Networks.{pair_at, IsRowOf, AreRowsOf};
 
-use srs_num::{NoMemory, V2};
 use srs_cell::{Cell, Span};
+use srs_num::{NoMemory, V2};
 use std::alloc::Global;
 
 /// Places of a list, from `start` on.

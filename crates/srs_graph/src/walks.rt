@@ -47,7 +47,12 @@ fn next_open(rows: &[Row], marks: &[Option<u32>], i: usize) -> usize
 }
 
 // The walk from the first open place.
-pub(crate) fn walk(alloc: Global, rows: &[Row], marks: &[Option<u32>], first: usize) -> Result<Round, NoMemory>
+pub(crate) fn walk(
+    alloc: Global,
+    rows: &[Row],
+    marks: &[Option<u32>],
+    first: usize,
+) -> Result<Round, NoMemory>
     requires rows { AreRows (length marks.now) rows.now }
     requires few { length marks.now ≤ 16384 }
     requires on { LeadOn rows.now marks.now }
@@ -74,7 +79,12 @@ pub(crate) fn walk(alloc: Global, rows: &[Row], marks: &[Option<u32>], first: us
 }
 
 // The first entries of the pairs of a path, from a place on.
-pub(crate) fn entries(alloc: Global, pairs: &[V2], path: &[usize], from: usize) -> Result<Nums, NoMemory>
+pub(crate) fn entries(
+    alloc: Global,
+    pairs: &[V2],
+    path: &[usize],
+    from: usize,
+) -> Result<Nums, NoMemory>
     requires inside { All (λ i. i < length pairs.now) path.now }
     requires from { from ≤ length path.now }
     ensures { IfOk result (λ entries. entries ≡ first_entries pairs.now path.now from (length path.now - from)) }

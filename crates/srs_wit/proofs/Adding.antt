@@ -11,7 +11,7 @@ use Rattle.srs_num.specs.declared.pairs.V2.{V2}
 use Rattle.srs_map.specs.Step.{pair, IsNarrow}
 use Rattle.srs_map.specs.Links.{right, left, up, down}
 use Rattle.srs_plane.specs.Regions.{Area}
-use Rattle.srs_path.specs.Witnesses.{IsWitness, unit, AreWitnesses}
+use Rattle.srs_path.specs.Witnesses.{IsWitness, unit}
 use Rattle.srs_path.proofs.WitnessLemmas.{pair_eq, pair-decides}
 use Rattle.srs_wit.specs.Listing.{AreTooMany}
 use Rattle.srs_wit.specs.Search.{AreFound, Adds, Extends, HasUnits}

@@ -1,5 +1,5 @@
 -- How the search goes on until all links lead to pairs that were found.
-use Rattle.std.proofs.Common.{◌≡◌, ◌⊎◌, inl, inr, ℕ, ◌+◌, ◌-◌, ◌<◌, ◌≤◌, List, [], ◌∷◌, ◌++◌, length, arith, ap, subst, sym, ◌∙◌, refl, length-append}
+use Rattle.std.proofs.Common.{◌≡◌, ◌⊎◌, inl, inr, ℕ, List, [], ◌∷◌, ◌++◌, length, arith, subst, sym, ◌∙◌}
 use Rattle.std.specs.Prelude.{Contains}
 use Rattle.std.proofs.lemmas.List.Elements.{Contains-append_left, Contains-append_right, Contains-append_cases}
 use Rattle.srs_num.specs.declared.pairs.V2.{V2}
@@ -61,10 +61,14 @@ module _ (R : Area) (W : ℕ) where
         from_old v (inr y) = inr (λ u t. keeps u (y u t))
 
   pub all_closed : (ks waiting : List V2) → Closing R W ks waiting → length waiting ≡ 0 → AreAll R W ks
-  all_closed ks waiting c e = record { found = c.found; units = c.units; closed = λ w k. elim (c.settled w k) [
-    | inl y ↦ absurd (omega (arith, e, y.1))
-    | inr y ↦ y
-  ] }
+  all_closed ks waiting c e = record {
+    found = c.found;
+    units = c.units;
+    closed = λ w k. elim (c.settled w k) [
+      | inl y ↦ absurd (omega (arith, e, y.1))
+      | inr y ↦ y
+    ];
+  }
 
   pub all_listed : (ks : List V2) → AreAll R W ks → (w : V2) → IsWitness R w → Contains ks w
   all_listed ks a w h = witness_induction R (Contains ks) a.units (λ w v r i l c. a.closed w c v (r, i, l)) h

@@ -1,7 +1,6 @@
 -- How all that one pair links to is added.
-use Rattle.std.proofs.Common.{◌≡◌, ◌≢◌, inl, inr, ℕ, ◌+◌, ◌<◌, ◌≤◌, List, length, map, ℤ, pos, ◌-ℤ◌, ◌≤ℤ◌, ◌<ℤ◌, ◌+ℤ◌, neg_ℤ, unsigned_abs, arith, ap, subst, sym, ◌∙◌, get_or}
+use Rattle.std.proofs.Common.{◌≡◌, ◌≢◌, inl, inr, ℕ, ◌+◌, ◌<◌, ◌≤◌, List, length, ℤ, pos, ◌-ℤ◌, ◌≤ℤ◌, ◌<ℤ◌, ◌+ℤ◌, neg_ℤ, unsigned_abs, arith, ap, subst, sym, ◌∙◌, get_or}
 use Rattle.std.specs.Prelude.{Contains, AllPairs}
-use Rattle.std.specs.List.{range_with_len}
 use Rattle.std.proofs.Math.Decide.{dec_lt}
 use Rattle.std.proofs.lemmas.Int.{ints}
 use Rattle.std.proofs.lemmas.List.FromFn.{length-map-range_with_len, get_or-map-range_with_len}
@@ -9,7 +8,7 @@ use Rattle.srs_num.specs.declared.pairs.V2.{V2}
 use Rattle.srs_num.proofs.Linear.{linear}
 use Rattle.srs_map.specs.Step.{pair}
 use Rattle.srs_plane.specs.Regions.{Area}
-use Rattle.srs_path.specs.Witnesses.{IsWitness, link, AreWitnesses}
+use Rattle.srs_path.specs.Witnesses.{IsWitness, link}
 use Rattle.srs_cell.specs.Moves.{AreMoves}
 use Rattle.srs_wit.specs.Spans.{LinksTo, IsCount, pair_from, pairs_from}
 use Rattle.srs_wit.specs.Listing.{AreTooMany}

@@ -1,7 +1,6 @@
 -- A sorted list of different pairs is strictly ascending.
-use Rattle.std.proofs.Common.{◌≡◌, ◌≢◌, ℕ, ◌+◌, ◌<◌, List, length, get_or, Bool, arith, ap₂, subst, sym, ◌∙◌, true, false, true≢false, Ordering, refl}
+use Rattle.std.proofs.Common.{◌≡◌, ◌≢◌, ℕ, ◌+◌, List, get_or, Bool, arith, ap₂, subst, sym, true, false, true≢false, Ordering, refl}
 use Rattle.std.specs.Prelude.{AllPairs}
-use Rattle.std.specs.List.{IsDistinct}
 use Rattle.std.specs.List.Sorted.{IsSorted, IsPermutation}
 use Rattle.std.specs.Ordering.{int_cmp, ordering_then, is_lt}
 use Rattle.std.specs.Cmp.{int_cmp_is}
@@ -28,12 +27,15 @@ sorted_step : (v w : V2) → is_lt (pair_cmp w v) ≡ false → v ≢ w → Prec
 sorted_step v w h d = by_lt_z w.a v.a
     (λ l. let e = int_cmp_is w.a v.a Less l in
     absurd (true≢false (subst (λ (o : Ordering). is_lt (ordering_then o (int_cmp w.b v.b)) ≡ false) (sym e) h)))
-    (λ g. (g, λ s. by_lt_z w.b v.b
-    (λ l. let e = int_cmp_is w.a v.a Equal (sym s) in
-    let f = int_cmp_is w.b v.b Less l in
-    let h2 : is_lt (ordering_then Equal (int_cmp w.b v.b)) ≡ false = subst (λ (o : Ordering). is_lt (ordering_then o (int_cmp w.b v.b)) ≡ false) (sym e) h in
-    absurd (true≢false (subst (λ (o : Ordering). is_lt o ≡ false) (sym f) h2)))
-    (λ k. by_lt_z v.b w.b (λ l. l) (λ m. let t : v.b ≡ w.b = omega (arith, ints) in absurd (d (ap₂ pair s t))))))
+    (λ g. (
+      g,
+      λ s. by_lt_z w.b v.b
+          (λ l. let e = int_cmp_is w.a v.a Equal (sym s) in
+          let f = int_cmp_is w.b v.b Less l in
+          let h2 : is_lt (ordering_then Equal (int_cmp w.b v.b)) ≡ false = subst (λ (o : Ordering). is_lt (ordering_then o (int_cmp w.b v.b)) ≡ false) (sym e) h in
+          absurd (true≢false (subst (λ (o : Ordering). is_lt o ≡ false) (sym f) h2)))
+          (λ k. by_lt_z v.b w.b (λ l. l) (λ m. let t : v.b ≡ w.b = omega (arith, ints) in absurd (d (ap₂ pair s t)))),
+    ))
 
 same_answer : (b c : Bool) → (b ≡ true → c ≡ true) → (c ≡ true → b ≡ true) → b ≡ c
 same_answer true c f g = sym (f refl)

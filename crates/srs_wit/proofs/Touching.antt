@@ -84,12 +84,14 @@ module _ (R : Area) (w : V2) (low high wlow whigh : ℤ) (p : HasPoint R) (f : A
 
   all : (j : ℤ) → LinksTo R w (pair w.b j) → (wlow ≤ℤ j) × (j ≤ℤ high)
   all j e = elim e.2 [
-    | inl s ↦
-      (below wlow (back e.0 w) (step_of e.0 w).b j (back_in e.0 e.1).0 (touch e.0 w e.1.is_point).1 (ap (λ (u : V2). u.b) (sym s)),
-      (f.all j (e.0, e.1, sym s)).1)
-    | inr s ↦
-      ((g.all j (e.0, e.1, sym s)).0,
-      above high (step_of e.0 w).b (back e.0 w) j (ahead_in e.0 e.1).1 (touch e.0 w e.1.is_point).1 (ap (λ (u : V2). u.b) (sym s)))
+    | inl s ↦ (
+      below wlow (back e.0 w) (step_of e.0 w).b j (back_in e.0 e.1).0 (touch e.0 w e.1.is_point).1 (ap (λ (u : V2). u.b) (sym s)),
+      (f.all j (e.0, e.1, sym s)).1,
+    )
+    | inr s ↦ (
+      (g.all j (e.0, e.1, sym s)).0,
+      above high (step_of e.0 w).b (back e.0 w) j (ahead_in e.0 e.1).1 (touch e.0 w e.1.is_point).1 (ap (λ (u : V2). u.b) (sym s)),
+    )
   ]
     where
       below : (l m k j : ℤ) → l ≤ℤ m → m ≤ℤ k → k ≡ j → l ≤ℤ j

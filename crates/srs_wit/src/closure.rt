@@ -7,10 +7,10 @@ ghost use Rattle.srs_path.specs.Witnesses.{IsWitness, IsSmall};
 ghost use Rattle.srs_wit.specs.Listing.{AreAllWitnesses, AreTooMany, IsExcess};
 ghost use Rattle.srs_wit.specs.Search.{AreFound, Adds, Extends, IsClosedAt, HasUnits, AreAll};
 
-use srs_cell::Cell;
 use crate::sets::{Big, WitErr, WitSet};
 use crate::spans::{count, first_pairs, is_narrow, links, pair_at};
 use indexmap::IndexSet;
+use srs_cell::Cell;
 use srs_num::{NoMemory, Pairs, V2};
 use std::alloc::Global;
 

@@ -1,4 +1,4 @@
-use Rattle.std.proofs.Common.{List, ℕ, Option, length, subst, sym, refl, arith}
+use Rattle.std.proofs.Common.{length, subst, sym}
 use Rattle.std.proofs.lemmas.Result.{IfOk-weaker}
 use Rattle.srs_graph.specs.Marks.{IsPeeled}
 use Rattle.srs_graph.specs.Listings.{AreOpenPairs, AreTheCore}

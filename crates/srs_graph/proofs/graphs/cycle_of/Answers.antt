@@ -14,8 +14,11 @@ entries-requires-clause-inside c k d l =
     let p : IsPeeled c.args.pairs.now c.args.rows.now c.deref-in-Some.result.now = subst (IsPeeled c.args.pairs.now c.args.rows.now) (sym c.deref-in-Some.ensures.value) c.in_ok-marks.ensures in
     let r : IsRound c.args.rows.now c.deref-in-Some.result.now c.deref-in-Some-2.result.now c.in_ok-round-in-Some.round.from =
     subst (λ (path : List ℕ). IsRound c.args.rows.now c.deref-in-Some.result.now path c.in_ok-round-in-Some.round.from) (sym c.deref-in-Some-2.ensures.value) c.in_ok-round-in-Some.ensures in
-    omega (arith, get_or_default c.deref-in-Some-2.result.now k d 0 l,
-    round_inside c.args.pairs.now c.args.rows.now c.deref-in-Some.result.now c.deref-in-Some-2.result.now c.in_ok-round-in-Some.round.from c.requires.rows p r k l)
+    omega (
+      arith,
+      get_or_default c.deref-in-Some-2.result.now k d 0 l,
+      round_inside c.args.pairs.now c.args.rows.now c.deref-in-Some.result.now c.deref-in-Some-2.result.now c.in_ok-round-in-Some.round.from c.requires.rows p r k l,
+    )
 
 pub entries-requires-clause-from : goal.entries-requires-clause-from
 entries-requires-clause-from c =

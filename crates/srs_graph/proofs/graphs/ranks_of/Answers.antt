@@ -1,4 +1,4 @@
-use Rattle.std.proofs.Common.{◌≡◌, List, ℕ, ℤ, length, subst, sym, ap, ◌∙◌}
+use Rattle.std.proofs.Common.{◌≡◌, List, ℕ, length, subst, sym}
 use Rattle.srs_num.specs.declared.pairs.V2.{V2}
 use Rattle.srs_path.specs.Core.{HasCore, HasNoCore, AreRanks}
 use Rattle.srs_path.specs.Lists.{ranked, MakesRanks}

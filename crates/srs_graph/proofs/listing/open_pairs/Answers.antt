@@ -10,10 +10,10 @@ loop-i-preserved c =
     let h : c.loop-i.i < length c.args.pairs.now = omega (arith, c.requires) in
     elim c.if-is_none.branch [
       | then-is_none+in-Ok w ↦
-        picked_along c.args.pairs.now c.args.marks.now (c.loop-i.i + 1) c.if-is_none.found (c.loop-i.found ++ pair_at c.args.pairs.now c.loop-i.i ∷ []) (w.found-is ∙ w.in-Ok.ensures.ok)
-        (picked_more c.args.pairs.now c.args.marks.now c.loop-i.i c.loop-i.found (pair_at c.args.pairs.now c.loop-i.i) c.loop-i.invariant h refl (no_some _ w.if-is_none.ensures))
+          picked_along c.args.pairs.now c.args.marks.now (c.loop-i.i + 1) c.if-is_none.found (c.loop-i.found ++ pair_at c.args.pairs.now c.loop-i.i ∷ []) (w.found-is ∙ w.in-Ok.ensures.ok)
+          (picked_more c.args.pairs.now c.args.marks.now c.loop-i.i c.loop-i.found (pair_at c.args.pairs.now c.loop-i.i) c.loop-i.invariant h refl (no_some _ w.if-is_none.ensures))
       | else-is_none w ↦
-        let n = some_of _ w.if-is_none.ensures in
-        picked_along c.args.pairs.now c.args.marks.now (c.loop-i.i + 1) c.if-is_none.found c.loop-i.found w.found-is
-        (picked_skip c.args.pairs.now c.args.marks.now c.loop-i.i n.0 c.loop-i.found c.loop-i.invariant n.1)
+          let n = some_of _ w.if-is_none.ensures in
+          picked_along c.args.pairs.now c.args.marks.now (c.loop-i.i + 1) c.if-is_none.found c.loop-i.found w.found-is
+          (picked_skip c.args.pairs.now c.args.marks.now c.loop-i.i n.0 c.loop-i.found c.loop-i.invariant n.1)
     ]

@@ -1,5 +1,4 @@
-use Rattle.std.proofs.Common.{rules, [], List}
-use Rattle.srs_num.specs.declared.pairs.V2.{V2}
+use Rattle.std.proofs.Common.{rules, []}
 use Rattle.srs_path.specs.Witnesses.{unit}
 use Rattle.srs_map.specs.Links.{right, left, up, down}
 use Rattle.srs_wit.specs.Listing.{IsExcess}
