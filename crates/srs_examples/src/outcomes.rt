@@ -1,9 +1,11 @@
 // Witness sets, their graphs, and what a cycle does at the points of a cell.
+ghost use Rattle.std.specs.Prelude.{◌≤◌};
+
 use crate::cells::{CORNER, cell_of};
 use srs_cell::Cell;
 use srs_cut::{Judged, cutout, judge};
 use srs_graph::Graph;
-use srs_num::{Form, V2};
+use srs_num::{Form, Pairs, V2};
 use srs_path::{Cycle, Outcome};
 use srs_plane::Kind;
 use srs_text::Nums;
@@ -47,6 +49,20 @@ fn cycle_of(alloc: Global, entries: &[i64]) -> Result<Cycle, Fail> {
     }
     let cycle = Cycle::of(numbers).ok_or("it is a cycle")?;
     Ok(cycle)
+}
+
+// The witnesses that show that there are more than `bound`.
+fn different_witnesses(alloc: Global, cell: &Cell, bound: u32) -> Option<Pairs>
+    requires some { 1 ≤ bound }
+    requires few { bound ≤ 16384 }
+{
+    match witnesses(alloc, cell, bound) {
+        Err(WitErr::Large(big)) => match big {
+            Big::Many(found) => Some(found),
+            Big::Wide(_) => None,
+        },
+        _ => None,
+    }
 }
 
 fn are_different(pairs: &[V2]) -> bool {
@@ -94,13 +110,9 @@ fn nine_witnesses(rt: HostRuntime) -> Result<(), Fail> {
 fn one_witness_too_many(rt: HostRuntime) -> Result<(), Fail> {
     let alloc = rt.alloc();
     let corner = closed(alloc, &CORNER)?;
-    match witnesses(alloc, &corner, 8) {
-        Err(WitErr::Large(Big::Many(found))) => {
-            assert_eq!(rt; found.len(), 9);
-            assert!(rt; are_different(found.as_slice()));
-        }
-        _ => Err("eight are too few")?,
-    }
+    let found = different_witnesses(alloc, &corner, 8).ok_or("eight are too few")?;
+    assert_eq!(rt; found.len(), 9);
+    assert!(rt; are_different(found.as_slice()));
     Ok(())
 }
 
