@@ -4,3 +4,4 @@ pub mod Corners
 pub mod Bounds
 pub mod Moves
 pub mod Sides
+pub mod Parts

@@ -4,11 +4,13 @@
 mod bounds;
 mod cells;
 mod corners;
+mod divisions;
 mod ends;
 mod moves;
 mod sides;
 
 pub use bounds::Bound;
 pub use cells::Cell;
+pub use divisions::Parts;
 pub use moves::Span;
 pub use sides::{divides, is_above, is_below};
