@@ -1,9 +1,9 @@
 -- The closed halves of a region that has a point: the box adds nothing to them.
 use Rattle.std.proofs.Common.{◌≡◌, List, get_or, ℤ, pos, neg_ℤ, ◌+ℤ◌, ◌-ℤ◌, ◌*ℤ◌, ◌≤ℤ◌, ◌<ℤ◌, arith, ◌∷◌, []}
 use Rattle.std.proofs.lemmas.Int.{by_lt_z}
-use Rattle.std.proofs.lemmas.List.Elements.{All-from_recursion}
+use Rattle.std.proofs.lemmas.List.Elements.{All-weaker, All-from_recursion}
 use Rattle.srs_num.specs.Points.{Point, LinearForm, value, IsNear}
-use Rattle.srs_num.proofs.Linear.{linear, mul_one, mul_nonneg}
+use Rattle.srs_num.proofs.Linear.{linear, mul_one, mul_nonneg, mul_pos}
 use Rattle.srs_num.proofs.Combinations.{mix}
 use Rattle.srs_num.proofs.Identities.{value-mix, mix-d}
 use Rattle.srs_num.proofs.Ring.{lit, ◌⊕◌, ◌⊖◌, ◌⊗◌, v, minus, ring}
@@ -14,37 +14,51 @@ use Rattle.srs_cell.specs.Hull.{IsInHalves, IsAbove}
 use Rattle.srs_cell.specs.Corners.{box, boxed, IsCell}
 use Rattle.srs_cell.proofs.Signs.{both_signs}
 use Rattle.srs_cell.proofs.BoxHull.{near_in_box, near_by_box}
-use Rattle.srs_cell.proofs.Areas.{all_by_recursion, boxed_all}
+use Rattle.srs_cell.proofs.Areas.{all_by_recursion, boxed_all, asked}
 
 -- a weighted sum of two that are at least what the half asks, where the second meets it
-asks_mix : (k : Kind) (n a b r : ℤ) → r ≡ n *ℤ a +ℤ pos 1 *ℤ b → pos 0 ≤ℤ n → pos 0 ≤ℤ a → Asks k b → Asks k r
-asks_mix Ge n a b r e h i j = let p = mul_nonneg n a h i in let o = mul_one b in at_least _ _ _ _ e p o j
+asks_mix : (kind : Kind) (k l r a b : ℤ) → r ≡ k *ℤ a +ℤ l *ℤ b → pos 0 ≤ℤ k → pos 0 <ℤ l → pos 0 ≤ℤ a → Asks kind b → Asks kind r
+asks_mix Ge k l r a b e hk hl ha hb = add _ _ _ e (mul_nonneg k a hk ha) (mul_nonneg l b (not_below _ hl) hb)
   where
-    at_least : (r p b c : ℤ) → r ≡ p +ℤ c → pos 0 ≤ℤ p → c ≡ b → pos 0 ≤ℤ b → pos 0 ≤ℤ r
-    at_least r p b c e h f k = omega (arith, linear)
-asks_mix Gt n a b r e h i j = let p = mul_nonneg n a h i in let o = mul_one b in above _ _ _ _ e p o j
-  where
-    above : (r p b c : ℤ) → r ≡ p +ℤ c → pos 0 ≤ℤ p → c ≡ b → pos 0 <ℤ b → pos 0 <ℤ r
-    above r p b c e h f k = omega (arith, linear)
+    not_below : (a : ℤ) → pos 0 <ℤ a → pos 0 ≤ℤ a
+    not_below a h = omega (arith, linear)
 
--- from a point of the closed halves each step towards a point of the region is in the region
-mix_inside : (R : Area) (z p : Point) (n : ℤ) → IsInClosed R z → IsIn R p → pos 0 ≤ℤ n → IsIn R (mix n z (pos 1) p)
-mix_inside R z p n z_in p_in h =
-    let w = mix n z (pos 1) p in
-    let zs = All-from_recursion (λ h. pos 0 ≤ℤ value h.form z) R z_in.halves in
-    let ps = All-from_recursion (λ h. IsInHalf h p) R p_in.halves in
+    add : (r a b : ℤ) → r ≡ a +ℤ b → pos 0 ≤ℤ a → pos 0 ≤ℤ b → pos 0 ≤ℤ r
+    add r a b e h k = omega (arith, linear)
+asks_mix Gt k l r a b e hk hl ha hb = add _ _ _ e (mul_nonneg k a hk ha) (mul_pos l b hl hb)
+  where
+    add : (r a b : ℤ) → r ≡ a +ℤ b → pos 0 ≤ℤ a → pos 0 <ℤ b → pos 0 <ℤ r
+    add r a b e h k = omega (arith, linear)
+
+-- between a point of the closed halves and a point of the region there are points of the region
+pub mix_in : (R : Area) (k l : ℤ) (c s : Point) → pos 0 ≤ℤ k → pos 0 <ℤ l → IsInClosed R c → IsIn R s → IsIn R (mix k c l s)
+mix_in R k l c s hk hl c_in s_in =
+    let m = mix k c l s in
     record {
-      is_point = deep _ _ _ _ (mix-d n (pos 1) z p) (mul_nonneg n z.d h (from_one _ z_in.is_point)) (mul_one p.d) p_in.is_point;
-      halves = all_by_recursion (λ h. IsInHalf h w) R (λ i d lt.
-          let k = get_or R i d in
-          asks_mix k.kind n (value k.form z) (value k.form p) (value k.form w) (value-mix n (pos 1) k.form z p) h (zs i d lt) (ps i d lt));
+      is_point = deep _ _ _ (mix-d k l c s) (mul_nonneg k c.d hk (least _ c_in.is_point)) (mul_pos l s.d hl (above _ s_in.is_point));
+      halves = all_by_recursion (λ h. IsInHalf h m) R (λ i d lt.
+          let h = get_or R i d in
+          asks_mix h.kind k l _ _ _ (value-mix k l h.form c s) hk hl
+          (All-from_recursion (λ h. pos 0 ≤ℤ value h.form c) R c_in.halves i d lt)
+          (All-from_recursion (λ h. IsInHalf h s) R s_in.halves i d lt));
     }
   where
-    from_one : (a : ℤ) → pos 1 ≤ℤ a → pos 0 ≤ℤ a
-    from_one a h = omega (arith, linear)
+    least : (a : ℤ) → pos 1 ≤ℤ a → pos 0 ≤ℤ a
+    least a h = omega (arith, linear)
 
-    deep : (r a b c : ℤ) → r ≡ a +ℤ c → pos 0 ≤ℤ a → c ≡ b → pos 1 ≤ℤ b → pos 1 ≤ℤ r
-    deep r a b c e h f k = omega (arith, linear)
+    above : (a : ℤ) → pos 1 ≤ℤ a → pos 0 <ℤ a
+    above a h = omega (arith, linear)
+
+    deep : (r a b : ℤ) → r ≡ a +ℤ b → pos 0 ≤ℤ a → pos 0 <ℤ b → pos 1 ≤ℤ r
+    deep r a b e h k = omega (arith, linear)
+
+-- a point of the region is in the closed halves
+pub closed_in : (R : Area) (z : Point) → IsIn R z → IsInClosed R z
+closed_in R z i = record {
+  is_point = i.is_point;
+  halves = all_by_recursion (λ h. pos 0 ≤ℤ value h.form z) R
+      (All-weaker (λ h. IsInHalf h z) (λ h. pos 0 ≤ℤ value h.form z) (λ h k. asked h.kind (value h.form z) k) R (All-from_recursion (λ h. IsInHalf h z) R i.halves));
+}
 
 -- what is at least 0 on the region is so on the closed halves
 closed_too : (R : Area) (z p : Point) (h : LinearForm) → IsInClosed R z → IsIn R p → ((r : Point) → IsIn R r → pos 0 ≤ℤ value h r) → pos 0 ≤ℤ value h z
@@ -52,10 +66,13 @@ closed_too R z p h z_in p_in good =
     let hp = good p p_in in
     let n = value h p +ℤ pos 1 in
     by_lt_z (value h z) (pos 0)
-    (λ low. absurd (both_signs _ (good (mix n z (pos 1) p) (mix_inside R z p n z_in p_in (one_more _ hp)))
+    (λ low. absurd (both_signs _ (good (mix n z (pos 1) p) (mix_in R n (pos 1) z p (one_more _ hp) one z_in p_in))
     (too_low (value h p) (value h z) _ (value-mix n (pos 1) h z p) low hp)))
     (λ high. high)
   where
+    one : pos 0 <ℤ pos 1
+    one = omega (arith, linear)
+
     one_more : (a : ℤ) → pos 0 ≤ℤ a → pos 0 ≤ℤ (a +ℤ pos 1)
     one_more a h = omega (arith, linear)
 

@@ -10,4 +10,5 @@ pub mod Areas
 pub mod Closed
 pub mod Least
 pub mod Infima
+pub mod LeastFloors
 pub mod OneSided

@@ -1,6 +1,7 @@
 // The least and the greatest value of a form over a cell.
 ghost use Rattle.std.specs.Prelude.{◌≡◌, ◌≤◌, ◌^◌, ◌↔◌, IsTrue, All, length};
-ghost use Rattle.srs_num.specs.Points.{value, IsWithin, IsPointWithin};
+ghost use Rattle.srs_num.specs.Points.{Point, value, IsNear, IsWithin, IsPointWithin};
+ghost use Rattle.srs_plane.specs.Regions.{IsIn};
 ghost use Rattle.srs_cell.specs.Bounds.{IsLow, IsHigh, IsBoundSized, IsLower, IsLeastCorner, IsLeastSum};
 
 use crate::Cell;
@@ -17,10 +18,12 @@ pub struct Bound {
 
 impl Cell {
     /// The infimum of the form over the points of the cell, and whether a point takes it. It takes no memory: it goes
-    /// over the at most 84 corners twice and over the at most 80 halves once.
+    /// over the at most 84 corners twice and over the at most 80 halves once. All points of a cell are near, which bounds
+    /// the value of a form of bounded numbers.
     pub fn low(&self, f: &Form) -> Bound
         ensures low { IsLow self.now f.now result }
         ensures sized { IsBoundSized result }
+        ensures near { (r : Point) → IsIn self.now r → IsNear r }
     {
         let corners = self.corners();
         let least = least_corner(f, corners);

@@ -3,6 +3,12 @@
 #![tactic(auto)]
 
 #[cfg(test)]
+mod cells;
+#[cfg(test)]
+mod counting;
+#[cfg(test)]
 mod orbits;
+#[cfg(test)]
+mod outcomes;
 #[cfg(test)]
 mod polygons;

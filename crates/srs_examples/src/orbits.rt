@@ -8,7 +8,10 @@ const WIDEST: i64 = 1 << 37;
 // The end of the orbit of (a, b) at (p / d, q / d), where the call may be made.
 fn end(p: i64, q: i64, d: i64, a: i64, b: i64, n: u32) -> Option<OrbitEnd> {
     let r = Pt::new(p, q, d)?;
-    if !r.near() || n > 100_000 {
+    if !r.near() {
+        return None;
+    }
+    if n > 100_000 {
         return None;
     }
     if a < -WIDEST || a > WIDEST || b < -WIDEST || b > WIDEST {

@@ -4,15 +4,15 @@ use srs_plane::{Kind, PolyErr, Vertex, polygon};
 use std::alloc::{AllocError, Global};
 use std::test::Fail;
 
-// The vertices p/d, q/d, all edges closed.
-pub fn closed(alloc: Global, corners: &[(i64, i64, i64)]) -> Result<Vec<Vertex>, AllocError> {
+// The vertices p/d, q/d, with edges of one kind.
+pub fn with_kind(alloc: Global, corners: &[(i64, i64, i64)], kind: Kind) -> Result<Vec<Vertex>, AllocError> {
     let mut vertices = Vec::new(alloc);
     for (p, q, d) in corners {
         vertices.push(Vertex {
             p: *p,
             q: *q,
             d: *d,
-            kind: Kind::Ge,
+            kind,
         })?;
     }
     Ok(vertices)
@@ -20,7 +20,7 @@ pub fn closed(alloc: Global, corners: &[(i64, i64, i64)]) -> Result<Vec<Vertex>,
 
 // The refusal of these vertices; none where they are a polygon.
 fn refusal(alloc: Global, corners: &[(i64, i64, i64)]) -> Result<Option<PolyErr>, AllocError> {
-    let vertices = closed(alloc, corners)?;
+    let vertices = with_kind(alloc, corners, Kind::Ge)?;
     match polygon(alloc, &vertices) {
         Ok(_) => Ok(None),
         Err(refused) => Ok(Some(refused)),
@@ -63,8 +63,10 @@ fn vertex_range_ends(rt: HostRuntime) -> Result<(), Fail> {
 #[test]
 fn points_of_a_region(rt: HostRuntime) -> Result<(), Fail> {
     let alloc = rt.alloc();
-    let mut vertices = closed(alloc, &[(-1, 0, 8), (0, -1, 8), (1, 0, 8)])?;
-    vertices[0].kind = Kind::Gt;
+    let mut vertices = with_kind(alloc, &[(-1, 0, 8), (0, -1, 8), (1, 0, 8)], Kind::Ge)?;
+    if let Some(first) = vertices.first_mut() {
+        first.kind = Kind::Gt;
+    }
     let made = polygon(alloc, &vertices);
     assert!(rt; made.is_ok());
     if let Ok(region) = made {

@@ -1,5 +1,5 @@
 -- What is read as a polygon is its text, and its text is read.
-use Rattle.std.proofs.Common.{◌≡◌, ◌≢◌, ◌≤◌, ◌<◌, ◌+◌, ◌-◌, ◌^◌, ◌++◌, All, FitsSigned, ℕ, ℤ, pos, List, [], ◌∷◌, length, Some, None, codes, flat_map, refl, sym, ap, ◌∙◌, inl, inr, arith, append_assoc, append-nil, length-append, lit<}
+use Rattle.std.proofs.Common.{◌≡◌, ◌≢◌, ◌≤◌, ◌<◌, ◌+◌, ◌-◌, ◌^◌, ◌++◌, All, FitsSigned, ℕ, pos, List, [], ◌∷◌, length, Some, None, codes, flat_map, refl, sym, ap, ◌∙◌, inl, inr, arith, append_assoc, append-nil, length-append, lit<}
 use Rattle.std.specs.Int.{w64}
 use Rattle.std.proofs.lemmas.Int.{ints}
 use Rattle.std.proofs.lemmas.List.Concat.{flat_map-append}
@@ -22,7 +22,7 @@ use Rattle.srs_line.proofs.LineTexts.{said_is, says_line, line_no_lf}
 use Rattle.srs_file.specs.declared.outline.Phase.{Phase}
 use Rattle.srs_file.specs.declared.outline.Phase.TheVariants.{Head, Vertices, Done}
 use Rattle.srs_file.specs.declared.outline.PolygonReader.{PolygonReader}
-use Rattle.srs_file.specs.Texts.{ended, kind_word, vertex_text, count_text, ring_text, polygon_text}
+use Rattle.srs_file.specs.Texts.{ended, kind_word, vertex_text, count_text, polygon_text}
 use Rattle.srs_file.specs.Grammar.{SpellsPolygon}
 use Rattle.srs_file.specs.Ring.{RingView, SaysVertex, Adds, Opens}
 use Rattle.srs_file.specs.Outline.{StepsFrom, Steps, Slips, IsEnd, start, ReadsAs, IsRefusal, IsOutside}
@@ -149,7 +149,7 @@ runs_from done v [] placed polygon =
       full Vertices (done ++ v ∷ []),
       inl (omega arith, (full Vertices (done ++ v ∷ [])).ring, (v, says_vertex v here, inr (refl, polygon, refl)), refl),
       plain_vertex v here,
-      (full Done (done ++ v ∷ []), inr (refl, refl, refl), end_plain, refl)
+      (full Done (done ++ v ∷ []), inr (refl, refl, refl), end_plain, refl),
     )
 runs_from done v (w ∷ rest) placed polygon =
     let here = All-head IsPlaced v (w ∷ rest) placed in
@@ -157,7 +157,7 @@ runs_from done v (w ∷ rest) placed polygon =
       growing (length (w ∷ rest)) (done ++ v ∷ []),
       inl (omega arith, (growing (length (w ∷ rest)) (done ++ v ∷ [])).ring, (v, says_vertex v here, inl (omega arith, one_less done (w ∷ rest) v)), refl),
       plain_vertex v here,
-      rw (append_assoc done (v ∷ []) (w ∷ rest)) at more
+      rw (append_assoc done (v ∷ []) (w ∷ rest)) at more,
     )
 
 polygon_plain : All (λ c. 32 < c) (codes "polygon")
@@ -190,12 +190,12 @@ text_is_read text vs s =
             growing (length vs) [],
             ((growing (length vs) []).ring, opened vs s.polygon, refl),
             line_no_lf (codes "polygon") (pos (length vs) ∷ []) polygon_plain (size_fits (length vs) s.polygon.counted.1),
-            runs_all vs s.polygon
+            runs_all vs s.polygon,
           );
         },
-        refl
+        refl,
       ),
-      refl
+      refl,
     )
 
 -- a text that is refused is that of no polygon

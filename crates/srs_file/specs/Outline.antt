@@ -11,10 +11,15 @@ use Rattle.srs_file.specs.declared.outline.Phase.{Phase}
 use Rattle.srs_file.specs.declared.outline.Phase.TheVariants.{Head, Vertices, Done}
 use Rattle.srs_file.specs.declared.outline.PolygonReader.{PolygonReader}
 use Rattle.srs_file.specs.Grammar.{SpellsPolygon}
-use Rattle.srs_file.specs.Ring.{RingView, Opens, SlipsOpen, TakesVertex, SlipsVertex}
+use Rattle.srs_file.specs.Ring.{RingView, Opens, IsOpenSlip, TakesVertex, SlipsVertex}
 
+-- the first line opens the ring
 abbrev pub StepsHead : PolygonReader → List ℕ → PolygonReader → Type 0
 StepsHead old line new = (ring : RingView) × Opens line ring × (new ≡ record { phase = Vertices; ring = ring })
+
+-- what is wrong with the first line
+abbrev pub SlipsHead : List ℕ → Slip → ℕ → Type 0
+SlipsHead line slip back = IsOpenSlip line slip × (back ≡ 0)
 
 -- a vertex where one is to come, and else `end`
 abbrev pub StepsVertices : PolygonReader → List ℕ → PolygonReader → Type 0
@@ -22,18 +27,21 @@ StepsVertices old line new =
     ((0 < old.ring.left) × (ring : RingView) × TakesVertex old.ring line ring × (new ≡ record old { ring = ring }))
     ⊎ ((old.ring.left ≡ 0) × (line ≡ codes "end") × (new ≡ record old { phase = Done }))
 
+-- what is wrong with a vertex, or with `end`
 abbrev pub SlipsVertices : PolygonReader → List ℕ → Slip → ℕ → Type 0
 SlipsVertices old line slip back =
     ((0 < old.ring.left) × SlipsVertex old.ring line slip back)
     ⊎ ((old.ring.left ≡ 0) × (line ≢ codes "end") × (slip ≡ Word) × (back ≡ 0))
 
+-- what a good line does in each phase
 abbrev pub StepsFrom : Phase → PolygonReader → List ℕ → PolygonReader → Type 0
 StepsFrom Head old line new = StepsHead old line new
 StepsFrom Vertices old line new = StepsVertices old line new
 StepsFrom Done old line new = ⊥
 
+-- what is wrong with a line in each phase
 abbrev pub SlipsFrom : Phase → PolygonReader → List ℕ → Slip → ℕ → Type 0
-SlipsFrom Head old line slip back = SlipsOpen line slip back
+SlipsFrom Head old line slip back = SlipsHead line slip back
 SlipsFrom Vertices old line slip back = SlipsVertices old line slip back
 SlipsFrom Done old line slip back = ⊥
 
@@ -45,9 +53,11 @@ Steps old line new = StepsFrom old.phase old line new
 abbrev pub Slips : PolygonReader → List ℕ → Slip → ℕ → Type 0
 Slips old line slip back = SlipsFrom old.phase old line slip back
 
+-- the line `end` was read
 abbrev pub IsEnd : PolygonReader → Type 0
 IsEnd reader = reader.phase ≡ Done
 
+-- a reader before the first line
 abbrev pub start : PolygonReader
 start = record { phase = Head; ring = record { left = 0; vertices = []; region = None } }
 

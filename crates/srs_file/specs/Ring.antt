@@ -44,15 +44,16 @@ IsTurn vs slip back = (i : ℕ) × IsPolygonErr vs (polygons.Turn i) × (slip �
 abbrev pub Opens : List ℕ → RingView → Type 0
 Opens line new = (n : ℕ) × SaysCount (codes "polygon") 3 16 n line × (new ≡ record { left = n; vertices = []; region = None })
 
-abbrev pub SlipsOpen : List ℕ → Slip → ℕ → Type 0
-SlipsOpen line slip back = IsCountSlip (codes "polygon") 3 16 Count line slip × (back ≡ 0)
+-- what is wrong with a line that should say how many vertices come
+abbrev pub IsOpenSlip : List ℕ → Slip → Type 0
+IsOpenSlip line slip = IsCountSlip (codes "polygon") 3 16 Count line slip
 
 -- The vertex is put at the end. With the last one the vertices are a polygon, whose region is kept.
 abbrev pub Adds : RingView → Vertex → RingView → Type 0
 Adds old v new =
     ((old.left ≢ 1) × (new ≡ record { left = old.left - 1; vertices = old.vertices ++ v ∷ []; region = old.region }))
     ⊎ ((old.left ≡ 1) × IsPolygon (old.vertices ++ v ∷ [])
-      × (new ≡ record { left = 0; vertices = old.vertices ++ v ∷ []; region = Some (region_of (old.vertices ++ v ∷ [])) }))
+    × (new ≡ record { left = 0; vertices = old.vertices ++ v ∷ []; region = Some (region_of (old.vertices ++ v ∷ [])) }))
 
 -- the vertex is the last one, and with it the vertices turn the wrong way
 abbrev pub SlipsAdd : RingView → Vertex → Slip → ℕ → Type 0
@@ -62,5 +63,6 @@ SlipsAdd old v slip back = (old.left ≡ 1) × IsTurn (old.vertices ++ v ∷ [])
 abbrev pub TakesVertex : RingView → List ℕ → RingView → Type 0
 TakesVertex old line new = (v : Vertex) × SaysVertex v line × Adds old v new
 
+-- The line says no vertex in its range, or with the vertex that it says, the last one, the vertices turn the wrong way.
 abbrev pub SlipsVertex : RingView → List ℕ → Slip → ℕ → Type 0
 SlipsVertex old line slip back = (IsVertexSlip line slip × (back ≡ 0)) ⊎ ((v : Vertex) × SaysVertex v line × SlipsAdd old v slip back)

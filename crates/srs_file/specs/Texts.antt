@@ -1,5 +1,5 @@
 -- The texts of values: lines, polygons, limits, outcomes and certificates.
-use Rattle.std.specs.Prelude.{ℕ, List, [], ◌∷◌, ◌++◌, length, ℤ, pos, codes}
+use Rattle.std.specs.Prelude.{ℕ, List, [], ◌∷◌, ◌++◌, length, pos, codes}
 use Rattle.std.specs.List.{flat_map}
 use Rattle.srs_num.specs.declared.pairs.V2.{V2}
 use Rattle.srs_plane.specs.declared.halves.Kind.{Kind}

@@ -8,3 +8,4 @@ mod vertex;
 pub use outline::{Outline, Phase, PolygonReader, one_polygon, read_polygon};
 pub use ring::Ring;
 pub use srs_line::{FileErr, Slip};
+pub use vertex::word_of;

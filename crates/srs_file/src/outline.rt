@@ -5,8 +5,7 @@ ghost use Rattle.srs_plane.specs.Polygons.{region_of};
 ghost use Rattle.srs_line.specs.declared.slip.Slip.{Slip};
 ghost use Rattle.srs_line.specs.Refusal.{IsSlip};
 ghost use Rattle.srs_file.specs.Grammar.{SpellsPolygon};
-ghost use Rattle.srs_file.specs.Ring.{SlipsOpen};
-ghost use Rattle.srs_file.specs.Outline.{start, StepsHead, StepsVertices, SlipsVertices, ReadsAs, FirstSlip, IsRefusal, IsOutside};
+ghost use Rattle.srs_file.specs.Outline.{start, StepsHead, SlipsHead, StepsVertices, SlipsVertices, ReadsAs, FirstSlip, IsRefusal, IsOutside};
 
 use crate::Ring;
 use srs_line::{FileErr, LineErr, LineMachine, Slip, never_both, one_slip, read_lines, read_once};
@@ -48,14 +47,14 @@ impl PolygonReader {
 
     fn head(&mut self, line: &[u8]) -> Result<(), LineErr>
         ensures ok { OnOk result (StepsHead self.old line.now self.new) }
-        ensures err { IfErr result (IsSlip (SlipsOpen line.now)) }
+        ensures err { IfErr result (IsSlip (SlipsHead line.now)) }
     {
         match self.ring.open(line) {
             Ok(()) => {
                 self.phase = Phase::Vertices;
                 Ok(())
             }
-            Err(e) => Err(e),
+            Err(slip) => Err(LineErr::Slip(slip, 0)),
         }
     }
 

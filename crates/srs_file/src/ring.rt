@@ -1,10 +1,10 @@
 // A ring of vertices, read line by line.
-ghost use Rattle.std.specs.Prelude.{◌≡◌, ◌<◌, ◌++◌, ◌↔◌, [], ◌∷◌, IsTrue, IfOk, IfErr, OnOk, IfSome, IfNone, Some, None};
+ghost use Rattle.std.specs.Prelude.{◌≡◌, ◌<◌, ◌++◌, ◌↔◌, [], ◌∷◌, IsTrue, IfOk, IfErr, OnOk, OnErr, IfSome, IfNone, Some, None};
 ghost use Rattle.std.specs.List.{All};
 ghost use Rattle.srs_plane.specs.Placed.{IsPlaced};
 ghost use Rattle.srs_plane.specs.Polygons.{IsCounted, IsPolygon, region_of};
 ghost use Rattle.srs_line.specs.Refusal.{IsSlip};
-ghost use Rattle.srs_file.specs.Ring.{Opens, SlipsOpen, Adds, SlipsAdd, TakesVertex, SlipsVertex, IsTurn};
+ghost use Rattle.srs_file.specs.Ring.{Opens, IsOpenSlip, Adds, SlipsAdd, TakesVertex, SlipsVertex, IsTurn};
 
 use crate::Outline;
 use crate::vertex::vertex;
@@ -53,10 +53,11 @@ impl Ring {
         self.left > 0
     }
 
-    /// Begins anew with the line that says how many vertices come. An `Err` changes nothing.
-    pub fn open(&mut self, line: &[u8]) -> Result<(), LineErr>
+    /// Begins anew with the line that says how many vertices come. An `Err` changes nothing. It takes no memory.
+    pub fn open(&mut self, line: &[u8]) -> Result<(), Slip>
         ensures ok { OnOk result (Opens line.now self.new) }
-        ensures err { IfErr result (IsSlip (SlipsOpen line.now)) }
+        ensures err { IfErr result (IsOpenSlip line.now) }
+        ensures kept { OnErr result (self.new ≡ self.old) }
     {
         match count_of(line, b"polygon", 3, 16, Slip::Count) {
             Ok(n) => {
@@ -68,7 +69,7 @@ impl Ring {
                 };
                 Ok(())
             }
-            Err(slip) => Err(LineErr::Slip(slip, 0)),
+            Err(slip) => Err(slip),
         }
     }
 

@@ -7,3 +7,4 @@ pub mod Refinement
 pub mod Soundness
 pub mod Lists
 pub mod Views
+pub mod Paths

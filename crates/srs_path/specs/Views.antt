@@ -1,7 +1,11 @@
--- What limits and findings are seen as.
-use Rattle.std.specs.Prelude.{ℕ, ◌*◌, ◌≤◌, ◌^◌}
+-- What limits, findings and events are seen as.
+use Rattle.std.specs.Prelude.{ℕ, ◌+◌, ◌*◌, ◌≤◌, ◌^◌, List, Some, None, if◌then◌else◌, eqb, ltb}
+use Rattle.std.specs.declared.option.Option.{Option}
 use Rattle.srs_plane.specs.Regions.{Area}
 use Rattle.srs_path.specs.declared.outcomes.Outcome.{Outcome}
+use Rattle.srs_path.specs.declared.paths.Side.{Side}
+use Rattle.srs_path.specs.declared.limits.Last.{Last}
+use Rattle.srs_path.specs.declared.limits.Last.TheVariants.{Depth, Cells}
 
 -- the greatest depth, the most cells, and the most witnesses of a cell
 pub record Budget : Type 0 where
@@ -18,8 +22,18 @@ pub record IsBudget (b : Budget) : Type 0 where
   pub wits : b.wits ≤ 16384
   pub product : b.wits * b.cells ≤ 2 ^ 22
 
+-- which limit is spent: the depth in round D, else the cells where they and two for each that is pending are more than C
+abbrev pub last_of : Budget → ℕ → ℕ → ℕ → Option Last
+last_of b round cells pending =
+    (if eqb round b.depth then Some Depth else (if ltb b.cells (cells + 2 * pending) then Some Cells else None))
+
 -- an outcome of a region, for this many witnesses
 pub record Found : Type 0 where
   pub region : Area
   pub w : ℕ
+  pub outcome : Outcome
+
+-- an outcome of the cell at a path
+pub record Entry : Type 0 where
+  pub path : List Side
   pub outcome : Outcome

@@ -68,7 +68,8 @@ impl Cycle {
     }
 }
 
-fn copy_of(alloc: Global, entries: &Nums) -> Result<Nums, NoMemory>
+// The same numbers, in memory of their own.
+pub(crate) fn copy_of(alloc: Global, entries: &Nums) -> Result<Nums, NoMemory>
     ensures { IfOk result (λ copy. copy ≡ entries.now) }
 {
     let mut copy = Nums::new(alloc);

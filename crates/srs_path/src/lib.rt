@@ -2,13 +2,17 @@
 #![tactic(auto)]
 
 mod cycles;
+mod events;
 mod findings;
 mod limits;
 mod outcomes;
+mod paths;
 mod ranks;
 
 pub use cycles::Cycle;
+pub use events::Event;
 pub use findings::Finding;
 pub use limits::{Last, Limits};
 pub use outcomes::{Cause, Outcome, Why};
+pub use paths::{Path, Side};
 pub use ranks::Ranks;

@@ -1,6 +1,6 @@
 // The limits of a run.
-ghost use Rattle.std.specs.Prelude.{◌≡◌, IfSome, IfNone};
-ghost use Rattle.srs_path.specs.Views.{Budget, IsBudget};
+ghost use Rattle.std.specs.Prelude.{◌≡◌, ◌≤◌, ◌^◌, IfSome, IfNone};
+ghost use Rattle.srs_path.specs.Views.{Budget, IsBudget, last_of};
 
 use std::marker::Model;
 
@@ -64,5 +64,21 @@ impl Limits {
         ensures budget { IsBudget self.now }
     {
         self.wits
+    }
+
+    /// Which limit is spent in the round, of `cells` cells so far with `pending` more that may each be cut in two: at most
+    /// 2^32 of either. `None`: neither is.
+    pub fn last(&self, round: u32, cells: u64, pending: u64) -> Option<Last>
+        requires cells { cells ≤ 2 ^ 32 }
+        requires pending { pending ≤ 2 ^ 32 }
+        ensures { result ≡ last_of self.now round cells pending }
+    {
+        if round == self.depth {
+            return Some(Last::Depth);
+        }
+        if cells + 2 * pending > self.cells as u64 {
+            return Some(Last::Cells);
+        }
+        None
     }
 }

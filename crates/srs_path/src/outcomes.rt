@@ -1,6 +1,9 @@
 // The outcome of a cell.
+ghost use Rattle.std.specs.Prelude.{◌≡◌, IfOk};
+
 use crate::{Cycle, Ranks};
-use srs_num::Form;
+use srs_num::{Form, NoMemory};
+use std::alloc::Global;
 
 /// Why a cell stays open: its chosen cycle doesn't cover it, or it isn't small.
 #[derive(Clone, Copy, Debug, PartialEq, Eq, Drop)]
@@ -27,4 +30,18 @@ pub enum Outcome {
     Outside(Cycle),
     Cut(Form),
     Left(Cause),
+}
+
+impl Outcome {
+    /// An equal value. An `Err` is want of memory.
+    pub fn copy(&self, alloc: Global) -> Result<Outcome, NoMemory>
+        ensures { IfOk result (λ o. o ≡ self.now) }
+    {
+        match self {
+            Outcome::Inside(ranks) => Ok(Outcome::Inside(ranks.copy(alloc)?)),
+            Outcome::Outside(cycle) => Ok(Outcome::Outside(cycle.copy(alloc)?)),
+            Outcome::Cut(form) => Ok(Outcome::Cut(*form)),
+            Outcome::Left(cause) => Ok(Outcome::Left(*cause)),
+        }
+    }
 }

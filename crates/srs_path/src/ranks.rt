@@ -1,11 +1,13 @@
 // The ranks of a cell's witnesses.
-ghost use Rattle.std.specs.Prelude.{◌≡◌, ◌↔◌, ◌<◌, pos, ◌≤ℤ◌, length, slice_get, Some, All, AllPairs, IsTrue, IfSome, IfNone, IsSome};
+ghost use Rattle.std.specs.Prelude.{◌≡◌, ◌↔◌, ◌<◌, pos, ◌≤ℤ◌, length, slice_get, Some, All, AllPairs, IsTrue, IfSome, IfNone, IfOk, IsSome, MatchOption, Contains, ℕ};
 ghost use Rattle.srs_map.specs.Step.{IsNarrow};
 ghost use Rattle.srs_path.specs.Core.{Precedes};
 ghost use Rattle.srs_path.specs.Lists.{MakesRanks, ranked};
 
-use srs_num::{Pairs, V2};
+use crate::cycles::copy_of;
+use srs_num::{NoMemory, Pairs, V2};
 use srs_text::Nums;
+use std::alloc::Global;
 use std::marker::Model;
 
 /// Pairs with their ranks: 1 to 16384 of them, pairs strictly ascending with entries within 2^37, ranks 0 to 16384.
@@ -43,6 +45,16 @@ impl Ranks {
         }
     }
 
+    /// An equal value. An `Err` is want of memory.
+    pub fn copy(&self, alloc: Global) -> Result<Ranks, NoMemory>
+        ensures { IfOk result (λ r. r ≡ self.now) }
+    {
+        Ok(Ranks {
+            pairs: same_pairs(alloc, &self.pairs)?,
+            ranks: copy_of(alloc, &self.ranks)?,
+        })
+    }
+
     pub fn len(&self) -> u32
         ensures { result ≡ length self.now }
     {
@@ -56,6 +68,36 @@ impl Ranks {
     {
         (*self.pairs.get(i as u64), *self.ranks.get(i as u64) as u32)
     }
+
+    /// The rank of the pair. `None` exactly where it isn't listed.
+    pub fn rank(&self, w: V2) -> Option<u32>
+        ensures some { IfSome result (λ n. Contains self.now (w, n)) }
+        ensures none { IfNone result ((n : ℕ) → Contains self.now (w, n) → ⊥) }
+    {
+        let place = place_of(self.pairs.as_slice(), &w)?;
+        Some(*self.ranks.get(place as u64) as u32)
+    }
+}
+
+// Where the pair stands among ascending ones.
+fn place_of(pairs: &[V2], w: &V2) -> Option<usize>
+    requires { AllPairs Precedes pairs.now }
+    ensures { MatchOption result (Contains pairs.now w.now → ⊥) (λ i. slice_get pairs.now i ≡ Some w.now) }
+{
+    pairs.binary_search(w).ok()
+}
+
+// The same pairs, in memory of their own.
+fn same_pairs(alloc: Global, pairs: &Pairs) -> Result<Pairs, NoMemory>
+    ensures { IfOk result (λ copy. copy ≡ pairs.now) }
+{
+    let mut copy = Pairs::new(alloc);
+    for pair in pairs.as_slice() {
+        if copy.push(*pair).is_err() {
+            return Err(NoMemory);
+        }
+    }
+    Ok(copy)
 }
 
 fn makes_ranks(pairs: &Pairs, ranks: &Nums) -> bool

@@ -1,9 +1,7 @@
 // The command `certify`.
-ghost use Rattle.std.specs.Prelude.{◌≡◌, ◌↔◌, ◌≤◌, ◌+◌, ◌<◌, ◌^◌, IsTrue, [], ◌∷◌, List, ℕ, pos, IfOk, length, zero};
-ghost use Rattle.srs_plane.specs.Regions.{HasPoint};
+ghost use Rattle.std.specs.Prelude.{◌≡◌, ◌≤◌, ◌^◌, [], ◌∷◌, IfOk, length};
 ghost use Rattle.srs_plane.specs.Polygons.{region_of};
-ghost use Rattle.srs_path.specs.Cutout.{Covers, Breaks};
-ghost use Rattle.srs_path.specs.declared.outcomes.Outcome.TheVariants.{Outside};
+ghost use Rattle.srs_path.specs.Cutout.{Covers};
 ghost use Rattle.srs_file.specs.Texts.{certificate_text};
 ghost use Rattle.srs_file.specs.Grammar.{SpellsPolygon};
 ghost use Rattle.srs_tool.specs.Output.{SpellsNoPolygon, cycle_one};
@@ -12,9 +10,11 @@ ghost use Rattle.srs_tool.specs.Ends.{Tells};
 use crate::say::say;
 use crate::status::Status;
 use srs_cell::Cell;
+use srs_cut::{Judged, judge};
 use srs_file::{FileErr, Outline, read_polygon};
-use srs_num::{Form, NoMemory};
+use srs_num::NoMemory;
 use srs_path::{Cycle, Limits, Outcome};
+use srs_plane::Vertex;
 use srs_print::put_certificate;
 use srs_text::{Bytes, Nums, Sink};
 use std::alloc::Global;
@@ -71,22 +71,50 @@ fn certify_cell<K: Sink>(
     ensures told { Tells limits.now input.now result (K.got sink.old) (K.got sink.new) (K.faults sink.old) (K.faults sink.new) }
     ensures memory { result ≡ Status.NoMemory → sink.new ≡ sink.old }
 {
-    if !is_covered(cell) {
-        return say(Status::Refused, sink, b"refused unbuilt\n");
+    let cycle = match cycle_one(alloc) {
+        Ok(cycle) => cycle,
+        Err(NoMemory) => return Status::NoMemory,
+    };
+    match judge(cell, &cycle) {
+        Judged::Covers => print(alloc, limits, input, vertices, cycle, sink),
+        Judged::Fails { .. } => say(Status::Refused, sink, b"refused unbuilt\n"),
     }
-    match certificate(alloc, limits, vertices) {
+}
+
+// Prints the certificate of a polygon that the cycle 1 covers.
+fn print<K: Sink>(
+    alloc: Global,
+    limits: &Limits,
+    input: &[u8],
+    vertices: &[Vertex],
+    cycle: Cycle,
+    sink: &mut K,
+) -> Status
+    requires polygon { SpellsPolygon input.now vertices.now }
+    requires one { cycle ≡ cycle_one }
+    requires covers { Covers (region_of vertices.now) cycle_one }
+    ensures told { Tells limits.now input.now result (K.got sink.old) (K.got sink.new) (K.faults sink.old) (K.faults sink.new) }
+    ensures memory { result ≡ Status.NoMemory → sink.new ≡ sink.old }
+{
+    let _input = input;
+    let outcome = Outcome::Outside(cycle);
+    match certificate(alloc, limits, vertices, &outcome) {
         Ok(text) => say(Status::Done, sink, text.as_slice()),
         Err(NoMemory) => Status::NoMemory,
     }
 }
 
-// The certificate with the one outcome of the cycle 1.
-fn certificate(alloc: Global, limits: &Limits, vertices: &[Vertex]) -> Result<Bytes, NoMemory>
-    ensures { IfOk result (λ text. text ≡ certificate_text vertices.now limits.now (Outside cycle_one ∷ [])) }
+// The certificate of one cell, with its outcome.
+fn certificate(
+    alloc: Global,
+    limits: &Limits,
+    vertices: &[Vertex],
+    outcome: &Outcome,
+) -> Result<Bytes, NoMemory>
+    ensures { IfOk result (λ text. text ≡ certificate_text vertices.now limits.now (outcome.now ∷ [])) }
 {
-    let outcome = Outcome::Outside(cycle_one(alloc)?);
     let mut text = Bytes::new(alloc);
-    match put_certificate(&mut text, vertices, limits, &outcome) {
+    match put_certificate(&mut text, vertices, limits, outcome) {
         Ok(()) => Ok(text),
         Err(_) => Err(NoMemory),
     }
@@ -104,12 +132,4 @@ fn cycle_one(alloc: Global) -> Result<Cycle, NoMemory>
         Some(cycle) => Ok(cycle),
         None => unreachable!(),
     }
-}
-
-// Whether the cycle 1 holds at each point of the cell: x + y + 1 >= 0 and x + y < 0.
-fn is_covered(cell: &Cell) -> bool
-    ensures yes { IsTrue result → Covers cell.now cycle_one }
-    ensures no { ¬ (IsTrue result) → Breaks cell.now cycle_one 0 }
-{
-    is_above(cell) && is_below(cell)
 }

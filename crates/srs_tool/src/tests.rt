@@ -35,6 +35,7 @@ fn number_list(alloc: Global, n: i64) -> Result<Nums, i64> {
 }
 
 // One run: the words, the input, the read and the write that fail, and what comes of it.
+#[derive(Drop)]
 struct Run {
     words: &'static str,
     input: &'static str,
@@ -66,19 +67,25 @@ fn usage(words: &'static str) -> Run {
     }
 }
 
-fn shows(rt: &HostRuntime, run: &Run) -> Result<(), Fail> {
-    let alloc = rt.alloc();
+// What came of a run: its status, what was written, and what was left unread.
+#[derive(Drop)]
+struct Seen {
+    status: Status,
+    sink: MemSink,
+    source: MemSource,
+}
+
+fn play(alloc: Global, run: &Run) -> Result<Seen, Fail> {
     let words = words_of(alloc, run.words)?;
     let input = bytes_of(alloc, run.input.as_bytes())?;
     let mut source = MemSource::new(input, number_list(alloc, run.failing_read)?);
     let mut sink = MemSink::new(alloc, ROOM, number_list(alloc, run.failing_write)?)?;
     let status = plain(alloc, words.as_slice(), &mut source, &mut sink);
-    assert_eq!(rt; status, run.status, "at {:?}", run.input);
-    assert_eq!(rt; sink.bytes(), run.output.as_bytes());
-    if status == Status::Usage {
-        assert_eq!(rt; source.rest(), run.input.as_bytes());
-    }
-    Ok(())
+    Ok(Seen {
+        status,
+        sink,
+        source,
+    })
 }
 
 #[test]
@@ -117,13 +124,15 @@ fn polygons(rt: HostRuntime) -> Result<(), Fail> {
         ),
     ];
     for run in &runs {
-        shows(&rt, run)?;
+        let seen = play(rt.alloc(), run)?;
+        assert_eq!(rt; seen.status, run.status, "at {:?}", run.input);
+        assert_eq!(rt; seen.sink.bytes(), run.output.as_bytes());
     }
     Ok(())
 }
 
 #[test]
-fn words(rt: HostRuntime) -> Result<(), Fail> {
+fn unknown_words(rt: HostRuntime) -> Result<(), Fail> {
     let runs = [
         usage("certify 0 1 0"),
         usage("certify 0 1 16385"),
@@ -138,7 +147,10 @@ fn words(rt: HostRuntime) -> Result<(), Fail> {
         usage("--help"),
     ];
     for run in &runs {
-        shows(&rt, run)?;
+        let seen = play(rt.alloc(), run)?;
+        assert_eq!(rt; seen.status, Status::Usage, "at {:?}", run.words);
+        assert!(rt; seen.sink.bytes().is_empty());
+        assert_eq!(rt; seen.source.rest(), run.input.as_bytes());
     }
     Ok(())
 }
@@ -178,17 +190,26 @@ fn malformed_inputs(rt: HostRuntime) -> Result<(), Fail> {
         "polygon 5\nge 0 0 1\nge 1 0 1\nge 1 1 1\nge 0 1 1\nge 0 1 2\nend\n",
     ];
     for input in inputs {
-        shows(&rt, &certify(input, Status::Refused, "refused input\n"))?;
+        let seen = play(rt.alloc(), &certify(input, Status::Refused, ""))?;
+        assert_eq!(rt; seen.status, Status::Refused, "at {input:?}");
+        assert_eq!(rt; seen.sink.bytes(), b"refused input\n".as_slice(), "at {input:?}");
     }
     Ok(())
 }
 
 #[test]
 fn failing_ends(rt: HostRuntime) -> Result<(), Fail> {
-    let run = certify(CYCLE_ONE, Status::ReadFault, "");
-    shows(&rt, &Run { failing_read: 0, ..run })?;
-    let run = certify(CYCLE_ONE, Status::WriteFault, "");
-    shows(&rt, &Run { failing_write: 0, ..run })?;
+    let mut run = certify(CYCLE_ONE, Status::ReadFault, "");
+    run.failing_read = 0;
+    let first = play(rt.alloc(), &run)?;
+    assert_eq!(rt; first.status, run.status);
+    assert!(rt; first.sink.bytes().is_empty());
+
+    let mut run = certify(CYCLE_ONE, Status::WriteFault, "");
+    run.failing_write = 0;
+    let second = play(rt.alloc(), &run)?;
+    assert_eq!(rt; second.status, run.status);
+    assert!(rt; second.sink.bytes().is_empty());
     Ok(())
 }
 

@@ -1,5 +1,4 @@
 use Rattle.std.proofs.Common.{◌≡◌, sym, ◌∙◌, ap}
-use Rattle.srs_plane.specs.declared.polygons.Vertex.{Vertex}
 use Rattle.srs_file.specs.declared.outline.PolygonReader.{PolygonReader}
 use Rattle.srs_file.specs.Outline.{start}
 use Rattle.srs_file.proofs.OutlineLaws.{exact}

@@ -1,0 +1,6 @@
+pub mod Reading
+pub mod Marking
+pub mod Meaning
+pub mod Placing
+pub mod Picking
+pub mod Walking

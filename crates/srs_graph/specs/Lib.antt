@@ -1,0 +1,4 @@
+pub mod Networks
+pub mod Marks
+pub mod Listings
+pub mod Walks

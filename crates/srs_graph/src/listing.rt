@@ -1,0 +1,61 @@
+// What is listed from the marks: the pairs that have none, and the ranks where all have one.
+ghost use Rattle.std.specs.Prelude.{◌≡◌, ◌≤◌, length, IfOk, MatchOption};
+ghost use Rattle.srs_graph.specs.Listings.{AreOpenPairs, HasOpenPlace, AreNumbers};
+
+use srs_num::{NoMemory, Pairs, V2};
+use srs_text::Nums;
+use std::alloc::Global;
+
+// The pairs as a list of their own.
+pub(crate) fn copied(alloc: Global, pairs: &[V2]) -> Result<Pairs, NoMemory>
+    ensures { IfOk result (λ copy. copy ≡ pairs.now) }
+{
+    let mut copy = Pairs::new(alloc);
+    for w in pairs {
+        match copy.push(*w) {
+            Ok(()) => {}
+            Err(_) => return Err(NoMemory),
+        }
+    }
+    Ok(copy)
+}
+
+// The pairs with no mark, in their order.
+pub(crate) fn open_pairs(
+    alloc: Global,
+    pairs: &[V2],
+    marks: &[Option<u32>],
+) -> Result<Pairs, NoMemory>
+    requires { length pairs.now ≡ length marks.now }
+    ensures { IfOk result (AreOpenPairs pairs.now marks.now (length marks.now)) }
+{
+    let mut found = Pairs::new(alloc);
+    for i in 0..marks.len() {
+        if marks[i].is_none() {
+            match found.push(pairs[i]) {
+                Ok(()) => {}
+                Err(_) => return Err(NoMemory),
+            }
+        }
+    }
+    Ok(found)
+}
+
+// The marks as numbers, or `None` where a place has no mark.
+pub(crate) fn numbers(alloc: Global, marks: &[Option<u32>]) -> Result<Option<Nums>, NoMemory>
+    ensures { IfOk result (λ found. MatchOption found (HasOpenPlace marks.now) (AreNumbers marks.now (length marks.now))) }
+{
+    let mut numbers = Nums::new(alloc);
+    for i in 0..marks.len() {
+        match marks[i] {
+            None => return Ok(None),
+            Some(n) => {
+                match numbers.push(i64::from(n)) {
+                    Ok(()) => {}
+                    Err(_) => return Err(NoMemory),
+                }
+            }
+        }
+    }
+    Ok(Some(numbers))
+}

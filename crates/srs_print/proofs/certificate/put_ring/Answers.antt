@@ -1,0 +1,10 @@
+use Rattle.std.proofs.Common.{length, codes, flat_map}
+use Rattle.srs_file.specs.Texts.{count_text, vertex_text}
+use Rattle.srs_print.proofs.FrontLemmas.{sooner}
+use Rattle.std.proofs.lemmas.Result.{err_from_is_err_and}
+use Rattle.srs_print.proofs.certificate.put_ring.Goals as goal
+
+pub returns-in_err-put_count-clause-err : goal.returns-in_err-put_count-clause-err
+returns-in_err-put_count-clause-err c =
+    let p = err_from_is_err_and c.from_residual.result c.from_residual.ensures.1 in
+    rw p.1 (sooner c.args.out.now (count_text (codes "polygon") (length c.args.vertices.now)) (flat_map vertex_text c.args.vertices.now) c.put_count.new.out c.in_err-put_count.ensures.err)

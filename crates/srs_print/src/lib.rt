@@ -1,0 +1,8 @@
+//! Writes the texts of certificates.
+#![tactic(auto)]
+
+mod certificate;
+mod line;
+mod node;
+
+pub use certificate::put_certificate;

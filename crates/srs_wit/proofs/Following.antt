@@ -1,0 +1,88 @@
+-- How all that one pair links to is added.
+use Rattle.std.proofs.Common.{◌≡◌, ◌≢◌, inl, inr, ℕ, ◌+◌, ◌<◌, ◌≤◌, List, length, ℤ, pos, ◌-ℤ◌, ◌≤ℤ◌, ◌<ℤ◌, ◌+ℤ◌, neg_ℤ, unsigned_abs, arith, ap, subst, sym, ◌∙◌, get_or}
+use Rattle.std.specs.Prelude.{Contains, AllPairs}
+use Rattle.std.proofs.Math.Decide.{dec_lt}
+use Rattle.std.proofs.lemmas.Int.{ints}
+use Rattle.std.proofs.lemmas.List.FromFn.{length-map-range_with_len, get_or-map-range_with_len}
+use Rattle.srs_num.specs.declared.pairs.V2.{V2}
+use Rattle.srs_num.proofs.Linear.{linear}
+use Rattle.srs_map.specs.Step.{pair}
+use Rattle.srs_plane.specs.Regions.{Area}
+use Rattle.srs_path.specs.Witnesses.{IsWitness, link}
+use Rattle.srs_cell.specs.Moves.{AreMoves}
+use Rattle.srs_wit.specs.Spans.{LinksTo, IsCount, pair_from, pairs_from}
+use Rattle.srs_wit.specs.Listing.{AreTooMany}
+use Rattle.srs_wit.specs.Search.{AreFound, Adds, Extends, IsClosedAt}
+use Rattle.srs_wit.proofs.Adding.{extends_none, extends_more, adds_keep}
+
+-- a link from w leads to a pair that begins with the second entry of w
+first_entry : (R : Area) (w v : V2) → LinksTo R w v → pair w.b v.b ≡ v
+first_entry R w v e = elim e.2 [
+  | inl s ↦ ap (λ (x : ℤ). pair x v.b) (sym (ap (λ (u : V2). u.a) s))
+  | inr s ↦ ap (λ (x : ℤ). pair x v.b) (turned v.a w.b (ap (λ (u : V2). u.a) s))
+]
+  where
+    turned : (x y : ℤ) → x ≡ neg_ℤ (neg_ℤ y) → y ≡ x
+    turned x y e = omega (arith, linear)
+
+place_of : (low j : ℤ) → low ≤ℤ j → (k : ℕ) × (low +ℤ pos k ≡ j)
+place_of low j h = (unsigned_abs (j -ℤ low), omega (arith, ints))
+
+-- the first k pairs of w have been added
+pub record Adding (R : Area) (W : ℕ) (old : List V2) (w : V2) (low : ℤ) (k : ℕ) (now waited waiting : List V2) : Type 0 where
+  pub extends : Extends R W old now waited waiting
+  pub done : (j : ℕ) → j < k → Contains now (pair_from w low j)
+
+module _ (R : Area) (W : ℕ) (old : List V2) (w : V2) (low : ℤ) (waited : List V2) where
+  pub adding_none : AreFound R W old → Adding R W old w low 0 old waited waited
+  adding_none f = record { extends = extends_none R W old waited f; done = λ j h. absurd (omega arith) }
+
+  pub adding_more : (k : ℕ) (now new wait waiting : List V2) (v : V2) → Adding R W old w low k now waited wait → IsWitness R v → v ≡ pair_from w low k → Adds W now v new wait waiting → Adding R W old w low (k + 1) new waited waiting
+  adding_more k now new wait waiting v a h e s = record {
+    extends = extends_more R W old now new waited wait waiting v a.extends h s;
+    done = λ j l. elim (dec_lt j k) as (λ _. Contains new (pair_from w low j)) [
+      | yes b ↦ adds_keep W now v new wait waiting s (pair_from w low j) (a.done j b)
+      | no b ↦ let f : k ≡ j = omega arith in subst (Contains new) (e ∙ ap (pair_from w low) f) s.here
+    ];
+  }
+
+  pub all_added : (high : ℤ) (n k : ℕ) (now waiting : List V2) → AreMoves (LinksTo R) w low high → IsCount low high n → n ≤ k → Adding R W old w low k now waited waiting → IsClosedAt R now w
+  all_added high n k now waiting m c h a v e =
+      let f = first_entry R w v e in
+      let t = m.all v.b (subst (LinksTo R w) (sym f) e) in
+      let p = place_of low v.b t.0 in
+      subst (Contains now) (ap (pair w.b) p.1 ∙ f) (a.done p.0 (before low high v.b p.0 n k p.1 t.1 c.past h))
+    where
+      before : (low high j : ℤ) (i n k : ℕ) → low +ℤ pos i ≡ j → j ≤ℤ high → high <ℤ (low +ℤ pos n) → n ≤ k → i < k
+      before low high j i n k e a b h = omega (arith, ints)
+
+-- the pairs of a witness are witnesses
+module _ (R : Area) (w : V2) (low high : ℤ) (n : ℕ) (m : AreMoves (LinksTo R) w low high) (c : IsCount low high n) (h : IsWitness R w) where
+  pub witness_at : (k : ℕ) → k < n → IsWitness R (pair_from w low k)
+  witness_at k l =
+      let e = m.each (low +ℤ pos k) (omega (arith, ints)) (c.within k l) in
+      link e.0 e.1 e.2 h
+
+  -- and a span that is longer than the bound shows too many
+  pub span_shows_many : (W : ℕ) → W < n → AreTooMany R W (pairs_from w low (W + 1))
+  span_shows_many W l = record {
+    witnesses = record { different = different; each = each };
+    many = length-map-range_with_len (pair_from w low) 0 (W + 1);
+  }
+    where
+      long : length (pairs_from w low (W + 1)) ≡ W + 1
+      long = length-map-range_with_len (pair_from w low) 0 (W + 1)
+
+      entry : (i : ℕ) (d : V2) → i < W + 1 → get_or (pairs_from w low (W + 1)) i d ≡ pair_from w low i
+      entry i d b = get_or-map-range_with_len (pair_from w low) 0 (W + 1) i i d b (omega arith)
+
+      different : AllPairs ◌≢◌ (pairs_from w low (W + 1))
+      different i j d b r e =
+          let f = sym (entry i d (omega (arith, long))) ∙ e ∙ entry j d (omega (arith, long)) in
+          apart low i j b (ap (λ (u : V2). u.b) f)
+        where
+          apart : (x : ℤ) (i j : ℕ) → i < j → x +ℤ pos i ≡ x +ℤ pos j → ⊥
+          apart x i j b e = omega (arith, ints)
+
+      each : (v : V2) → Contains (pairs_from w low (W + 1)) v → IsWitness R v
+      each v (k, b, e) = subst (IsWitness R) (sym (entry k v (omega (arith, b, long))) ∙ e) (witness_at k (omega (arith, b, long)))

@@ -1,0 +1,6 @@
+pub mod Touching
+pub mod Mirrored
+pub mod Adding
+pub mod Following
+pub mod Closing
+pub mod Sorting

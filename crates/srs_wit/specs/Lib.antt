@@ -1,0 +1,4 @@
+pub mod Least
+pub mod Listing
+pub mod Spans
+pub mod Search

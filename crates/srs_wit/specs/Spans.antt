@@ -1,0 +1,26 @@
+-- The pairs that one pair links to.
+use Rattle.std.specs.Prelude.{ℕ, ◌<◌, ◌≤◌, ◌^◌, ℤ, pos, ◌+ℤ◌, ◌≤ℤ◌, ◌<ℤ◌, List, map}
+use Rattle.std.specs.List.{range_with_len}
+use Rattle.srs_num.specs.declared.pairs.V2.{V2}
+use Rattle.srs_num.specs.Points.{Point}
+use Rattle.srs_map.specs.Step.{pair}
+use Rattle.srs_map.specs.Links.{IsLink}
+use Rattle.srs_plane.specs.Regions.{Area, IsIn}
+
+-- some point of R links w to v
+abbrev pub LinksTo : Area → V2 → V2 → Type 0
+LinksTo R w v = (r : Point) × IsIn R r × IsLink r w v
+
+-- the n numbers from low on are those up to high
+pub record IsCount (low high : ℤ) (n : ℕ) : Type 0 where
+  pub past : high <ℤ (low +ℤ pos n)
+  pub within : (k : ℕ) → k < n → (low +ℤ pos k) ≤ℤ high
+  pub small : n ≤ 2 ^ 43
+
+-- the pair that begins with the second entry of w and ends k above low
+abbrev pub pair_from : V2 → ℤ → ℕ → V2
+pair_from w low k = pair w.b (low +ℤ pos k)
+
+-- the first n of these pairs
+abbrev pub pairs_from : V2 → ℤ → ℕ → List V2
+pairs_from w low n = map (pair_from w low) (range_with_len 0 n)

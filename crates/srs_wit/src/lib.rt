@@ -1,0 +1,11 @@
+//! The witnesses of a cell: the least set of pairs that holds the units and is closed under both links at every point
+//! of the cell.
+#![tactic(auto)]
+
+mod closure;
+pub mod laws;
+mod sets;
+mod spans;
+
+pub use closure::witnesses;
+pub use sets::{Big, WitErr, WitSet};

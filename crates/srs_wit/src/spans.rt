@@ -1,0 +1,75 @@
+// The pairs that one pair links to: all begin with its second entry, and their second entries make one span.
+ghost use Rattle.std.specs.Prelude.{◌≡◌, ◌≤◌, ◌<◌, ◌^◌, ◌↔◌, IsTrue, IfOk};
+ghost use Rattle.srs_num.specs.Points.{IsWithin};
+ghost use Rattle.srs_map.specs.Step.{IsNarrow};
+ghost use Rattle.srs_cell.specs.Moves.{AreMoves};
+ghost use Rattle.srs_wit.specs.Spans.{LinksTo, IsCount, pair_from, pairs_from};
+
+use srs_cell::{Cell, Span};
+use srs_num::{NoMemory, Pairs, V2};
+use std::alloc::Global;
+
+const WIDEST: i64 = 1 << 37;
+
+// Whether both entries are within 2^37.
+pub(crate) fn is_narrow(w: V2) -> bool
+    ensures { IsTrue result ↔ IsNarrow w }
+{
+    -WIDEST <= w.a && w.a <= WIDEST && -WIDEST <= w.b && w.b <= WIDEST
+}
+
+// The second entries of all links of a pair. At each point the second link ends as the first does or one below it, so
+// the two spans of the cell touch.
+pub(crate) fn links(cell: &Cell, w: V2) -> Span
+    requires { IsNarrow w }
+    ensures { AreMoves (LinksTo cell.now) w result.low result.high }
+{
+    let _region = cell.region();
+    let ahead = cell.moves(w);
+    let back = cell.wmoves(w);
+    Span {
+        low: back.low,
+        high: ahead.high,
+    }
+}
+
+// How many numbers a span has.
+pub(crate) fn count(span: Span) -> u64
+    requires low { IsWithin (2 ^ 41) span.low }
+    requires high { IsWithin (2 ^ 41) span.high }
+    ensures { IsCount span.low span.high result }
+{
+    if span.high < span.low {
+        0
+    } else {
+        (span.high - span.low + 1) as u64
+    }
+}
+
+// The pair at place `k` of the span of `w`.
+pub(crate) fn pair_at(w: V2, span: Span, k: u64) -> V2
+    requires low { IsWithin (2 ^ 41) span.low }
+    requires few { k < 2 ^ 43 }
+    ensures { result ≡ pair_from w span.low k }
+{
+    V2 {
+        a: w.b,
+        b: span.low + k as i64,
+    }
+}
+
+// The first `n` pairs of the span of `w`.
+pub(crate) fn first_pairs(alloc: Global, w: V2, span: Span, n: u64) -> Result<Pairs, NoMemory>
+    requires low { IsWithin (2 ^ 41) span.low }
+    requires few { n ≤ 2 ^ 43 }
+    ensures { IfOk result (λ pairs. pairs ≡ pairs_from w span.low n) }
+{
+    let mut pairs = Pairs::new(alloc);
+    for k in 0..n {
+        match pairs.push(pair_at(w, span, k)) {
+            Ok(()) => {}
+            Err(_) => return Err(NoMemory),
+        }
+    }
+    Ok(pairs)
+}
