@@ -1,6 +1,6 @@
 // The forms of a cycle.
 ghost use Rattle.std.specs.Prelude.{◌≡◌, ◌≤◌, ◌<◌, ◌+◌, ◌^◌, [], ◌∷◌, ◌++◌, length, OnOk, IfOk};
-ghost use Rattle.srs_num.specs.Points.{LinearForm, IsWithin};
+ghost use Rattle.srs_num.specs.Points.{IsWithin};
 ghost use Rattle.srs_path.specs.Cutout.{entry_at, lower_form, upper_form, cutout_of};
 
 use srs_num::{Form, Forms, NoMemory};

@@ -1,5 +1,5 @@
 // Whether a cycle covers a cell.
-ghost use Rattle.std.specs.Prelude.{◌≡◌, ◌≤◌, ◌<◌, ℕ, length, MatchBool};
+ghost use Rattle.std.specs.Prelude.{◌≤◌, ◌<◌, ℕ, length, MatchBool};
 ghost use Rattle.srs_path.specs.Cutout.{cutout_of, Breaks};
 ghost use Rattle.srs_cut.specs.Judgement.{HoldsThrough, IsJudged, IsFirstDivision, IsDivisionAt};
 

@@ -12,7 +12,7 @@ const WIDEST: i64 = 1 << 37;
 const TRIANGLE: [(i64, i64, i64); 3] = [(0, 0, 1), (1, 0, 1), (0, 1, 1)];
 
 // The triangle (0, 0), (1/8, 0), (0, 1/8).
-const CORNER: [(i64, i64, i64); 3] = [(0, 0, 1), (1, 0, 8), (0, 1, 8)];
+pub const CORNER: [(i64, i64, i64); 3] = [(0, 0, 1), (1, 0, 8), (0, 1, 8)];
 
 // The polygon's region with these halves appended.
 fn region_of(alloc: Global, vertices: &[Vertex], halves: &[(i64, i64, i64, Kind)]) -> Result<Option<Region>, Fail> {
@@ -32,7 +32,7 @@ fn region_of(alloc: Global, vertices: &[Vertex], halves: &[(i64, i64, i64, Kind)
 }
 
 // The cell of a triangle, all of whose edges are of one kind, within some halves.
-fn cell_of(
+pub fn cell_of(
     alloc: Global,
     corners: &[(i64, i64, i64)],
     kind: Kind,

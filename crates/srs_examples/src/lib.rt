@@ -9,4 +9,6 @@ mod counting;
 #[cfg(test)]
 mod orbits;
 #[cfg(test)]
+mod outcomes;
+#[cfg(test)]
 mod polygons;

@@ -1,10 +1,7 @@
 // The command `certify`.
-ghost use Rattle.std.specs.Prelude.{◌≡◌, ◌≤◌, ◌^◌, IsTrue, [], ◌∷◌, pos, ◌≤ℤ◌, ◌<ℤ◌, IfOk, length};
-ghost use Rattle.srs_num.specs.Points.{Point, value, IsFormSized};
-ghost use Rattle.srs_plane.specs.Regions.{IsIn};
+ghost use Rattle.std.specs.Prelude.{◌≡◌, ◌≤◌, ◌^◌, [], ◌∷◌, IfOk, length};
 ghost use Rattle.srs_plane.specs.Polygons.{region_of};
-ghost use Rattle.srs_path.specs.Cutout.{Covers, Breaks};
-ghost use Rattle.srs_path.specs.declared.outcomes.Outcome.TheVariants.{Outside};
+ghost use Rattle.srs_path.specs.Cutout.{Covers};
 ghost use Rattle.srs_file.specs.Texts.{certificate_text};
 ghost use Rattle.srs_file.specs.Grammar.{SpellsPolygon};
 ghost use Rattle.srs_tool.specs.Output.{SpellsNoPolygon, cycle_one};
@@ -13,11 +10,12 @@ ghost use Rattle.srs_tool.specs.Ends.{Tells};
 use crate::say::say;
 use crate::status::Status;
 use srs_cell::Cell;
+use srs_cut::{Judged, judge};
 use srs_file::{FileErr, Outline, read_polygon};
-use srs_num::{Form, NoMemory};
+use srs_num::NoMemory;
 use srs_path::{Cycle, Limits, Outcome};
-use srs_print::put_certificate;
 use srs_plane::Vertex;
+use srs_print::put_certificate;
 use srs_text::{Bytes, Nums, Sink};
 use std::alloc::Global;
 
@@ -73,22 +71,50 @@ fn certify_cell<K: Sink>(
     ensures told { Tells limits.now input.now result (K.got sink.old) (K.got sink.new) (K.faults sink.old) (K.faults sink.new) }
     ensures memory { result ≡ Status.NoMemory → sink.new ≡ sink.old }
 {
-    if !is_covered(cell) {
-        return say(Status::Refused, sink, b"refused unbuilt\n");
+    let cycle = match cycle_one(alloc) {
+        Ok(cycle) => cycle,
+        Err(NoMemory) => return Status::NoMemory,
+    };
+    match judge(cell, &cycle) {
+        Judged::Covers => print(alloc, limits, input, vertices, cycle, sink),
+        Judged::Fails { .. } => say(Status::Refused, sink, b"refused unbuilt\n"),
     }
-    match certificate(alloc, limits, vertices) {
+}
+
+// Prints the certificate of a polygon that the cycle 1 covers.
+fn print<K: Sink>(
+    alloc: Global,
+    limits: &Limits,
+    input: &[u8],
+    vertices: &[Vertex],
+    cycle: Cycle,
+    sink: &mut K,
+) -> Status
+    requires polygon { SpellsPolygon input.now vertices.now }
+    requires one { cycle ≡ cycle_one }
+    requires covers { Covers (region_of vertices.now) cycle_one }
+    ensures told { Tells limits.now input.now result (K.got sink.old) (K.got sink.new) (K.faults sink.old) (K.faults sink.new) }
+    ensures memory { result ≡ Status.NoMemory → sink.new ≡ sink.old }
+{
+    let _input = input;
+    let outcome = Outcome::Outside(cycle);
+    match certificate(alloc, limits, vertices, &outcome) {
         Ok(text) => say(Status::Done, sink, text.as_slice()),
         Err(NoMemory) => Status::NoMemory,
     }
 }
 
-// The certificate with the one outcome of the cycle 1.
-fn certificate(alloc: Global, limits: &Limits, vertices: &[Vertex]) -> Result<Bytes, NoMemory>
-    ensures { IfOk result (λ text. text ≡ certificate_text vertices.now limits.now (Outside cycle_one ∷ [])) }
+// The certificate of one cell, with its outcome.
+fn certificate(
+    alloc: Global,
+    limits: &Limits,
+    vertices: &[Vertex],
+    outcome: &Outcome,
+) -> Result<Bytes, NoMemory>
+    ensures { IfOk result (λ text. text ≡ certificate_text vertices.now limits.now (outcome.now ∷ [])) }
 {
-    let outcome = Outcome::Outside(cycle_one(alloc)?);
     let mut text = Bytes::new(alloc);
-    match put_certificate(&mut text, vertices, limits, &outcome) {
+    match put_certificate(&mut text, vertices, limits, outcome) {
         Ok(()) => Ok(text),
         Err(_) => Err(NoMemory),
     }
@@ -106,43 +132,4 @@ fn cycle_one(alloc: Global) -> Result<Cycle, NoMemory>
         Some(cycle) => Ok(cycle),
         None => unreachable!(),
     }
-}
-
-// Whether the cycle 1 holds at each point of the cell: x + y + 1 >= 0 and x + y < 0.
-fn is_covered(cell: &Cell) -> bool
-    ensures yes { IsTrue result → Covers cell.now cycle_one }
-    ensures no { ¬ (IsTrue result) → Breaks cell.now cycle_one 0 }
-{
-    if !is_above(cell, &form(1, 1, 1)) {
-        return false;
-    }
-    is_below(cell, &form(1, 1, 0))
-}
-
-// The form of three small numbers.
-fn form(a: i64, b: i64, c: i64) -> Form
-    requires { IsFormSized (record { a = a; b = b; c = c }) }
-    ensures { result ≡ record { a = a; b = b; c = c } }
-{
-    match Form::new(a, b, c) {
-        Some(form) => form,
-        None => unreachable!(),
-    }
-}
-
-// Whether the form is at least 0 at each point of the cell.
-fn is_above(cell: &Cell, form: &Form) -> bool
-    ensures yes { IsTrue result → (r : Point) → IsIn cell.now r → pos 0 ≤ℤ value form.now r }
-    ensures no { ¬ (IsTrue result) → (r : Point) × IsIn cell.now r × (value form.now r <ℤ pos 0) }
-{
-    cell.low(form).num >= 0
-}
-
-// Whether the form is below 0 at each point of the cell.
-fn is_below(cell: &Cell, form: &Form) -> bool
-    ensures yes { IsTrue result → (r : Point) → IsIn cell.now r → value form.now r <ℤ pos 0 }
-    ensures no { ¬ (IsTrue result) → (r : Point) × IsIn cell.now r × (pos 0 ≤ℤ value form.now r) }
-{
-    let high = cell.high(form);
-    high.num < 0 || high.num == 0 && !high.attained
 }

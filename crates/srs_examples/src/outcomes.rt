@@ -1,0 +1,211 @@
+// Witness sets, their graphs, and what a cycle does at the points of a cell.
+use crate::cells::{CORNER, cell_of};
+use srs_cell::Cell;
+use srs_cut::{Judged, cutout, judge};
+use srs_graph::Graph;
+use srs_num::{Form, V2};
+use srs_path::{Cycle, Outcome};
+use srs_plane::Kind;
+use srs_text::Nums;
+use srs_wit::{Big, WitErr, witnesses};
+use std::alloc::Global;
+use std::test::Fail;
+
+// The most witnesses that a cell may have.
+const MOST: u32 = 16384;
+
+// The triangle (-1/2, -1/4), (-1/4, -1/2), (-1/4, -1/4), which the cycle 1 covers.
+const CYCLE_ONE: [(i64, i64, i64); 3] = [(-2, -1, 4), (-1, -2, 4), (-1, -1, 4)];
+
+// A triangle round (0, 0).
+const ORIGIN: [(i64, i64, i64); 3] = [(-1, -1, 8), (1, -1, 8), (0, 1, 8)];
+
+fn pair(a: i64, b: i64) -> V2 {
+    V2 { a, b }
+}
+
+// The cell of a triangle with its edges.
+fn closed(alloc: Global, corners: &[(i64, i64, i64)]) -> Result<Cell, Fail> {
+    let cell = cell_of(alloc, corners, Kind::Ge, &[])?.ok_or("it has a point")?;
+    Ok(cell)
+}
+
+fn graph_of(alloc: Global, cell: &Cell) -> Result<Graph, Fail> {
+    match witnesses(alloc, cell, MOST) {
+        Ok(set) => {
+            let graph = Graph::of(alloc, cell, &set)?;
+            Ok(graph)
+        }
+        Err(_) => Err("it is small")?,
+    }
+}
+
+fn cycle_of(alloc: Global, entries: &[i64]) -> Result<Cycle, Fail> {
+    let mut numbers = Nums::new(alloc);
+    for entry in entries {
+        numbers.push(*entry)?;
+    }
+    let cycle = Cycle::of(numbers).ok_or("it is a cycle")?;
+    Ok(cycle)
+}
+
+fn are_different(pairs: &[V2]) -> bool {
+    for i in 0..pairs.len() {
+        for j in 0..i {
+            if pairs[i] == pairs[j] {
+                return false;
+            }
+        }
+    }
+    true
+}
+
+fn form(a: i64, b: i64, c: i64) -> Option<Form> {
+    Form::new(a, b, c)
+}
+
+#[test]
+fn nine_witnesses(rt: HostRuntime) -> Result<(), Fail> {
+    let alloc = rt.alloc();
+    let corner = closed(alloc, &CORNER)?;
+    let nine = [
+        pair(-1, -1),
+        pair(-1, 0),
+        pair(-1, 1),
+        pair(0, -1),
+        pair(0, 0),
+        pair(0, 1),
+        pair(1, -1),
+        pair(1, 0),
+        pair(1, 1),
+    ];
+    match witnesses(alloc, &corner, 9) {
+        Ok(set) => assert_eq!(rt; set.as_slice(), nine.as_slice()),
+        Err(_) => Err("nine are allowed")?,
+    }
+    match witnesses(alloc, &corner, MOST) {
+        Ok(set) => assert_eq!(rt; set.len(), 9),
+        Err(_) => Err("more are allowed")?,
+    }
+    Ok(())
+}
+
+#[test]
+fn one_witness_too_many(rt: HostRuntime) -> Result<(), Fail> {
+    let alloc = rt.alloc();
+    let corner = closed(alloc, &CORNER)?;
+    match witnesses(alloc, &corner, 8) {
+        Err(WitErr::Large(Big::Many(found))) => {
+            assert_eq!(rt; found.len(), 9);
+            assert!(rt; are_different(found.as_slice()));
+        }
+        _ => Err("eight are too few")?,
+    }
+    Ok(())
+}
+
+#[test]
+fn single_points(rt: HostRuntime) -> Result<(), Fail> {
+    let alloc = rt.alloc();
+    // at (0, 0) each pair (a, b) goes to (b, 0)
+    let origin = cell_of(alloc, &CORNER, Kind::Ge, &[(-1, -1, 0, Kind::Ge)])?.ok_or("it is a point")?;
+    let five = [pair(-1, 0), pair(0, -1), pair(0, 0), pair(0, 1), pair(1, 0)];
+    match witnesses(alloc, &origin, 5) {
+        Ok(set) => assert_eq!(rt; set.as_slice(), five.as_slice()),
+        Err(_) => Err("five are allowed")?,
+    }
+    // at (4, 4) the entries grow
+    let corners = [(4, 4, 1), (0, 4, 1), (4, 0, 1)];
+    let far = cell_of(alloc, &corners, Kind::Ge, &[(1, 1, -8, Kind::Ge)])?.ok_or("it is a point")?;
+    match witnesses(alloc, &far, MOST) {
+        Err(WitErr::Large(Big::Wide(w))) => {
+            let widest: i64 = 1 << 37;
+            assert!(rt; w.a > widest || w.a < -widest || w.b > widest || w.b < -widest);
+        }
+        _ => Err("a witness is wide")?,
+    }
+    Ok(())
+}
+
+#[test]
+fn ranks_of_a_corner(rt: HostRuntime) -> Result<(), Fail> {
+    let alloc = rt.alloc();
+    let graph = graph_of(alloc, &closed(alloc, &CORNER)?)?;
+    assert_eq!(rt; graph.core(alloc)?.len(), 0);
+    assert!(rt; graph.cycle(alloc)?.is_none());
+    let ranks = graph.ranks(alloc)?.ok_or("no walk goes on")?;
+    // the longest walk meets five of the nine pairs
+    let wanted = [
+        (pair(-1, -1), 4),
+        (pair(-1, 0), 3),
+        (pair(-1, 1), 3),
+        (pair(0, -1), 4),
+        (pair(0, 0), 0),
+        (pair(0, 1), 2),
+        (pair(1, -1), 4),
+        (pair(1, 0), 1),
+        (pair(1, 1), 2),
+    ];
+    assert_eq!(rt; ranks.len(), 9);
+    let outcome = Outcome::Inside(ranks.copy(alloc)?);
+    for (w, n) in &wanted {
+        assert_eq!(rt; ranks.rank(*w), Some(*n));
+    }
+    assert_eq!(rt; ranks.rank(pair(2, 0)), None);
+    if let Outcome::Inside(copy) = outcome.copy(alloc)? {
+        assert_eq!(rt; copy.len(), 9);
+        assert_eq!(rt; copy.entry(8), (pair(1, 1), 2));
+    }
+    Ok(())
+}
+
+#[test]
+fn a_pair_that_stays(rt: HostRuntime) -> Result<(), Fail> {
+    let alloc = rt.alloc();
+    let graph = graph_of(alloc, &closed(alloc, &CYCLE_ONE)?)?;
+    assert!(rt; graph.ranks(alloc)?.is_none());
+    // the least pair of the core only leads to the cycle
+    let core = graph.core(alloc)?;
+    assert_eq!(rt; core.as_slice(), [pair(0, 1), pair(1, 0), pair(1, 1)].as_slice());
+    let cycle = graph.cycle(alloc)?.ok_or("there is a core")?;
+    assert_eq!(rt; cycle.len(), 1);
+    assert_eq!(rt; cycle.entry(0), 1);
+    if let Outcome::Outside(copy) = Outcome::Outside(cycle).copy(alloc)? {
+        assert_eq!(rt; copy.len(), 1);
+        assert_eq!(rt; copy.entry(0), 1);
+    }
+    Ok(())
+}
+
+#[test]
+fn a_core_with_cycles(rt: HostRuntime) -> Result<(), Fail> {
+    let alloc = rt.alloc();
+    let graph = graph_of(alloc, &closed(alloc, &ORIGIN)?)?;
+    // all but (0, 0): (1, 0) and (0, 1), (-1, 0) and (0, -1) lead to each other, and so on
+    assert_eq!(rt; graph.core(alloc)?.len(), 8);
+    let cycle = graph.cycle(alloc)?.ok_or("there is a core")?;
+    assert_eq!(rt; cycle.len(), 2);
+    assert_eq!(rt; (cycle.entry(0), cycle.entry(1)), (0, 1));
+    Ok(())
+}
+
+#[test]
+fn what_a_cycle_covers(rt: HostRuntime) -> Result<(), Fail> {
+    let alloc = rt.alloc();
+    let one = cycle_of(alloc, &[1])?;
+    let forms = cutout(alloc, &one)?;
+    assert_eq!(rt; forms.len(), 2);
+    assert_eq!(rt; Some(*forms.get(0)), form(1, 1, 1));
+    assert_eq!(rt; Some(*forms.get(1)), form(1, 1, 0));
+
+    assert_eq!(rt; judge(&closed(alloc, &CYCLE_ONE)?, &one), Judged::Covers);
+    // x + y is at least 0 in the corner, and of both signs round (0, 0)
+    let corner = Judged::Fails { at: 0, divides: None };
+    assert_eq!(rt; judge(&closed(alloc, &CORNER)?, &one), corner);
+    let origin = Judged::Fails {
+        at: 0,
+        divides: form(1, 1, 0),
+    };
+    assert_eq!(rt; judge(&closed(alloc, &ORIGIN)?, &one), origin);
+    Ok(())
+}

@@ -1,0 +1,8 @@
+use Rattle.srs_grid.proofs.Doubling.{twice_span}
+use Rattle.srs_grid.proofs.spans.Span.doubled.Goals as goal
+
+pub returns : goal.returns
+returns c = λ R f g twice span.
+    twice_span R f g c.args.self.now c.doubled.result c.doubled-2.result twice span
+    (record { mixed = c.doubled.ensures.mixed; den = c.doubled.ensures.den; num = c.doubled.ensures.num })
+    (record { mixed = c.doubled-2.ensures.mixed; den = c.doubled-2.ensures.den; num = c.doubled-2.ensures.num })

@@ -1,0 +1,8 @@
+//! Grid lines: the first line 2^m*x = k or 2^m*y = k that divides a cell.
+#![tactic(auto)]
+
+mod lines;
+mod mixed;
+mod spans;
+
+pub use lines::line;
