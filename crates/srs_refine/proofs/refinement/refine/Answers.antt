@@ -1,0 +1,10 @@
+use Rattle.std.proofs.Common.{sym, subst, ◌∙◌}
+use Rattle.srs_plane.specs.Regions.{Area}
+use Rattle.srs_path.specs.Soundness.{IsSound}
+use Rattle.srs_refine.proofs.Sound.{refines_sound}
+use Rattle.srs_refine.proofs.refinement.refine.Goals as goal
+
+pub found-requires : goal.found-requires
+found-requires c =
+    subst (λ (R : Area). IsSound R c.args.w c.in_ok-outcome.outcome) (sym (c.in_ok-region.ensures ∙ c.region.ensures.value))
+    (refines_sound c.args.cell.now c.args.last c.args.w c.in_ok-outcome.outcome c.in_ok-outcome.ensures)

@@ -1,0 +1,8 @@
+//! The outcome of one cell: it is finite with ranks, it has one cycle at every point, a form divides it, or it is left
+//! with a cause.
+#![tactic(auto)]
+
+pub mod laws;
+mod refinement;
+
+pub use refinement::refine;

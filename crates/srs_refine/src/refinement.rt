@@ -1,0 +1,106 @@
+// The outcome of one cell, by the first row of the table that applies.
+ghost use Rattle.std.specs.Prelude.{◌≡◌, ◌≤◌, ℕ, Some, IfOk};
+ghost use Rattle.srs_plane.specs.Regions.{Area};
+ghost use Rattle.srs_path.specs.Witnesses.{IsSmall};
+ghost use Rattle.srs_path.specs.ChosenCycle.{IsChosen};
+ghost use Rattle.srs_path.specs.Refinement.{StaysOpen, Refines};
+ghost use Rattle.srs_wit.specs.Listing.{AreAllWitnesses};
+
+use srs_cell::Cell;
+use srs_cut::{Judged, judge};
+use srs_graph::Graph;
+use srs_grid::line;
+use srs_num::NoMemory;
+use srs_path::{Cause, Cycle, Finding, Last, Outcome, Why};
+use srs_wit::{WitErr, WitSet, witnesses};
+use std::alloc::Global;
+
+/// The outcome of the cell, for a bound `w` from 1 to 16384 on its witnesses, where `last` is the limit that is spent.
+///
+/// A small cell is inside where its core is empty, and outside where its chosen cycle covers it. Any other cell is left
+/// where a limit is spent. Else a small one is cut by the first form of its cutout that divides it, and one that isn't
+/// small by its first grid line; with no such line it is left as thin. An `Err` is want of memory.
+pub fn refine(alloc: Global, cell: &Cell, last: Option<Last>, w: u32) -> Result<Finding, NoMemory>
+    requires some { 1 ≤ w }
+    requires few { w ≤ 16384 }
+    ensures region { IfOk result (λ finding. finding.region ≡ cell.now) }
+    ensures w { IfOk result (λ finding. finding.w ≡ w) }
+    ensures outcome { IfOk result (λ finding. Refines cell.now last w finding.outcome) }
+{
+    let outcome = outcome_of(alloc, cell, last, w)?;
+    let region = cell.region().copy(alloc)?;
+    Ok(Finding::found(region, w, outcome))
+}
+
+// The outcome of the cell.
+fn outcome_of(alloc: Global, cell: &Cell, last: Option<Last>, w: u32) -> Result<Outcome, NoMemory>
+    requires some { 1 ≤ w }
+    requires few { w ≤ 16384 }
+    ensures { IfOk result (Refines cell.now last w) }
+{
+    match witnesses(alloc, cell, w) {
+        Ok(set) => of_small(alloc, cell, &set, last),
+        Err(WitErr::Large(_)) => Ok(of_large(cell, last)),
+        Err(WitErr::NoMemory) => Err(NoMemory),
+    }
+}
+
+// The outcome of a small cell with these witnesses.
+fn of_small(
+    alloc: Global,
+    cell: &Cell,
+    set: &WitSet,
+    last: Option<Last>,
+) -> Result<Outcome, NoMemory>
+    requires small { IsSmall cell.now 16384 }
+    requires all { AreAllWitnesses cell.now set.now }
+    ensures { (W : ℕ) → IsSmall cell.now W → IfOk result (Refines cell.now last W) }
+{
+    let graph = Graph::of(alloc, cell, set)?;
+    if let Some(ranks) = graph.ranks(alloc)? {
+        return Ok(Outcome::Inside(ranks));
+    }
+    let Some(cycle) = graph.cycle(alloc)? else {
+        unreachable!()
+    };
+    Ok(of_cycle(cell, cycle, last))
+}
+
+// The outcome of a small cell with this chosen cycle. Each edge of the cycle is taken at some point of the cell, so
+// where the cycle doesn't cover the cell, a form of its cutout divides it.
+fn of_cycle(cell: &Cell, cycle: Cycle, last: Option<Last>) -> Outcome
+    requires { IsChosen cell.now cycle }
+    ensures { (W : ℕ) → IsSmall cell.now W → Refines cell.now last W result }
+{
+    let Judged::Fails { divides, .. } = judge(cell, &cycle) else {
+        return Outcome::Outside(cycle);
+    };
+    match (last, divides) {
+        (Some(limit), _) => left(limit, Why::Cycle),
+        (None, Some(form)) => Outcome::Cut(form),
+        (None, None) => unreachable!(),
+    }
+}
+
+// The outcome of a cell that isn't small.
+fn of_large(cell: &Cell, last: Option<Last>) -> Outcome
+    ensures { (W : ℕ) → (IsSmall cell.now W → ⊥) → Refines cell.now last W result }
+{
+    if let Some(limit) = last {
+        return left(limit, Why::Witness);
+    }
+    match line(cell) {
+        Some(form) => Outcome::Cut(form),
+        None => Outcome::Left(Cause::Thin),
+    }
+}
+
+// The outcome of a cell that stays open where the limit is spent.
+fn left(limit: Last, why: Why) -> Outcome
+    ensures { (R : Area) (W : ℕ) → StaysOpen R W why → Refines R (Some limit) W result }
+{
+    match limit {
+        Last::Depth => Outcome::Left(Cause::Depth(why)),
+        Last::Cells => Outcome::Left(Cause::Cells(why)),
+    }
+}
