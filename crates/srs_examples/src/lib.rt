@@ -12,3 +12,5 @@ mod orbits;
 mod outcomes;
 #[cfg(test)]
 mod polygons;
+#[cfg(test)]
+mod refinement;

@@ -18,8 +18,7 @@ pub record AsksCertify (words : List (List ℕ)) (b : Budget) : Type 0 where
   pub split : words ≡ codes "certify" ∷ depth ∷ cells ∷ wits ∷ []
   pub limits : SpellsLimits depth cells wits b
 
--- the words that the program knows: `certify 0 1 W`
+-- the words that the program knows: `certify 0 C W`
 pub record IsForm (words : List (List ℕ)) (b : Budget) : Type 0 where
   pub certify : AsksCertify words b
   pub no_cut : b.depth ≡ 0
-  pub one_cell : b.cells ≡ 1

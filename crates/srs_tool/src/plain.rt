@@ -20,10 +20,11 @@ const LIMIT: u64 = 1 << 20;
 
 /// Does what the words ask for: reads the source, and writes to the sink.
 ///
-/// At `Done` the source was read to its end, its bytes are the text of a polygon that the cycle 1 covers, and its
-/// certificate was written; at each point of the polygon the pair (1, 1) comes back after one step. At `Refused` the
-/// bytes are the text of no polygon, or of one that the cycle 1 doesn't cover, and what was written says which. After
-/// a refusal the source has lost what was taken from it; at `NoMemory` nothing was written.
+/// At `Done` the source was read to its end, its bytes are the text of a polygon, and its certificate was written, with
+/// the one outcome that the polygon has where it isn't cut: inside, and every pair reaches (0,0) at each of its points;
+/// outside, and the printed cycle comes back at each of its points; or left with its cause. At `Refused` the bytes are
+/// the text of no polygon, and what was written says so. After a refusal the source has lost what was taken from it; at
+/// `NoMemory` nothing was written.
 pub fn plain<S: Source, K: Sink>(alloc: Global, words: &[String], source: &mut S, sink: &mut K) -> Status
     ensures usage { result ≡ Status.Usage → (limits : Budget) → IsForm (map string_bytes words.now) limits → ⊥ }
     ensures used { result ≢ Status.Usage → (limits : Budget) × IsForm (map string_bytes words.now) limits }

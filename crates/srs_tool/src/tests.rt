@@ -56,6 +56,17 @@ fn certify(input: &'static str, status: Status, output: &'static str) -> Run {
     }
 }
 
+fn for_words(words: &'static str, input: &'static str, output: &'static str) -> Run {
+    Run {
+        words,
+        input,
+        failing_read: NEVER,
+        failing_write: NEVER,
+        status: Status::Done,
+        output,
+    }
+}
+
 fn usage(words: &'static str) -> Run {
     Run {
         words,
@@ -89,38 +100,58 @@ fn play(alloc: Global, run: &Run) -> Result<Seen, Fail> {
 }
 
 #[test]
-fn polygons(rt: HostRuntime) -> Result<(), Fail> {
+fn small_cells(rt: HostRuntime) -> Result<(), Fail> {
+    let corner = "polygon 3\nge 0 0 1\nge 1 0 8\nge 0 1 8\nend\n";
     let runs = [
         certify(CYCLE_ONE, Status::Done, CYCLE_ONE_CERTIFICATE),
-        // each corner has x + y from -1 to -1/2
         certify(
-            "polygon 3\nge -1 -1 2\nge -1 -1 4\nge -1 0 2\nend\n",
+            corner,
             Status::Done,
-            "srs 1\npolygon 3\nge -1 -1 2\nge -1 -1 4\nge -1 0 2\nlimits 0 1 16\nout 1 1\nend\n",
+            "srs 1\npolygon 3\nge 0 0 1\nge 1 0 8\nge 0 1 8\nlimits 0 1 16\nin 9\nw -1 -1 4\nw -1 0 3\nw -1 1 3\nw 0 -1 4\nw 0 0 0\nw 0 1 2\nw 1 -1 4\nw 1 0 1\nw 1 1 2\nend\n",
         ),
-        // the corner (0, 0) has x + y = 0
+        // the same, without its edges
         certify(
-            "polygon 3\nge -1 -1 2\nge 0 0 1\nge -1 0 2\nend\n",
-            Status::Refused,
-            "refused unbuilt\n",
-        ),
-        // and is left out, where both its edges are open
-        certify(
-            "polygon 3\ngt -1 -1 2\ngt 0 0 1\nge -1 0 2\nend\n",
+            "polygon 3\ngt 0 0 1\ngt 1 0 8\ngt 0 1 8\nend\n",
             Status::Done,
-            "srs 1\npolygon 3\ngt -1 -1 2\ngt 0 0 1\nge -1 0 2\nlimits 0 1 16\nout 1 1\nend\n",
+            "srs 1\npolygon 3\ngt 0 0 1\ngt 1 0 8\ngt 0 1 8\nlimits 0 1 16\nin 9\nw -1 -1 4\nw -1 0 3\nw -1 1 3\nw 0 -1 4\nw 0 0 0\nw 0 1 2\nw 1 -1 4\nw 1 0 1\nw 1 1 2\nend\n",
         ),
-        // corner_triangle: its points have x + y at least 0
-        certify(
+        for_words(
+            "certify 0 1 9",
+            corner,
+            "srs 1\npolygon 3\nge 0 0 1\nge 1 0 8\nge 0 1 8\nlimits 0 1 9\nin 9\nw -1 -1 4\nw -1 0 3\nw -1 1 3\nw 0 -1 4\nw 0 0 0\nw 0 1 2\nw 1 -1 4\nw 1 0 1\nw 1 1 2\nend\n",
+        ),
+    ];
+    for run in &runs {
+        let seen = play(rt.alloc(), run)?;
+        assert_eq!(rt; seen.status, run.status, "at {:?}", run.input);
+        assert_eq!(rt; seen.sink.bytes(), run.output.as_bytes());
+    }
+    Ok(())
+}
+
+#[test]
+fn left_cells(rt: HostRuntime) -> Result<(), Fail> {
+    let runs = [
+        for_words(
+            "certify 0 1 8",
             "polygon 3\nge 0 0 1\nge 1 0 8\nge 0 1 8\nend\n",
-            Status::Refused,
-            "refused unbuilt\n",
+            "srs 1\npolygon 3\nge 0 0 1\nge 1 0 8\nge 0 1 8\nlimits 0 1 8\nleft depth witness\nend\n",
         ),
-        // a square with four vertices
-        certify(
-            "polygon 4\nge -1 -1 2\nge -1 -1 4\nge -3 0 8\nge -1 0 2\nend\n",
-            Status::Done,
-            "srs 1\npolygon 4\nge -1 -1 2\nge -1 -1 4\nge -3 0 8\nge -1 0 2\nlimits 0 1 16\nout 1 1\nend\n",
+        for_words(
+            "certify 0 64 16",
+            "polygon 3\nge -1 -1 8\nge 1 -1 8\nge 0 1 8\nend\n",
+            "srs 1\npolygon 3\nge -1 -1 8\nge 1 -1 8\nge 0 1 8\nlimits 0 64 16\nleft depth cycle\nend\n",
+        ),
+        // the most cells and the most witnesses
+        for_words(
+            "certify 0 65536 1",
+            "polygon 4\nge 4 4 1\nge -4 4 1\nge -4 -4 1\nge 4 -4 1\nend\n",
+            "srs 1\npolygon 4\nge 4 4 1\nge -4 4 1\nge -4 -4 1\nge 4 -4 1\nlimits 0 65536 1\nleft depth witness\nend\n",
+        ),
+        for_words(
+            "certify 0 256 16384",
+            "polygon 4\ngt 4 4 1\ngt -4 4 1\ngt -4 -4 1\ngt 4 -4 1\nend\n",
+            "srs 1\npolygon 4\ngt 4 4 1\ngt -4 4 1\ngt -4 -4 1\ngt 4 -4 1\nlimits 0 256 16384\nleft depth witness\nend\n",
         ),
     ];
     for run in &runs {
@@ -138,7 +169,9 @@ fn unknown_words(rt: HostRuntime) -> Result<(), Fail> {
         usage("certify 0 1 16385"),
         usage("certify 0 1 016"),
         usage("certify 1 1 16"),
-        usage("certify 0 2 16"),
+        usage("certify 0 0 16"),
+        usage("certify 0 65537 1"),
+        usage("certify 0 257 16384"),
         usage("certify 0 1"),
         usage("certify 0 1 16 1"),
         usage("certify"),

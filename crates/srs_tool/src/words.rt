@@ -16,7 +16,7 @@ pub fn form_of(words: &[String]) -> Option<Limits>
         Some(limits) => limits,
         None => return None,
     };
-    if limits.depth() != 0 || limits.cells() != 1 {
+    if limits.depth() != 0 {
         return None;
     }
     Some(limits)
