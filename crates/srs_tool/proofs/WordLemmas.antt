@@ -1,10 +1,10 @@
 -- What three words spell.
-use Rattle.std.proofs.Common.{◌≡◌, ℕ, ◌<◌, ◌≤◌, ◌^◌, List, [], ◌∷◌, length, get_or, pos, ℤ, Option, Some, None}
+use Rattle.std.proofs.Common.{◌≡◌, ℕ, List, pos, Option, Some, None}
 use Rattle.std.specs.Prelude.{IfNone}
 use Rattle.srs_text.specs.Spelling.{IsNumber}
 use Rattle.srs_text.proofs.Spellings.{number_once}
 use Rattle.srs_path.specs.Views.{Budget, IsBudget}
-use Rattle.srs_tool.specs.Words.{SpellsLimits, AsksCertify}
+use Rattle.srs_tool.specs.Words.{SpellsLimits}
 
 same_count : (text : List ℕ) (m n : ℕ) → IsNumber text (pos m) → IsNumber text (pos n) → m ≡ n
 same_count text m n h k = let e : pos m ≡ pos n = number_once text (pos m) (pos n) h k in cc

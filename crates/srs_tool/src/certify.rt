@@ -41,7 +41,13 @@ fn refuse<K: Sink>(limits: &Limits, input: &[u8], sink: &mut K) -> Status
 }
 
 // Answers for the text of a polygon.
-fn certify<K: Sink>(alloc: Global, limits: &Limits, input: &[u8], outline: Outline, sink: &mut K) -> Status
+fn certify<K: Sink>(
+    alloc: Global,
+    limits: &Limits,
+    input: &[u8],
+    outline: Outline,
+    sink: &mut K,
+) -> Status
     requires polygon { SpellsPolygon input.now outline.vertices }
     requires region { outline.region ≡ region_of outline.vertices }
     ensures told { Tells limits.now input.now result (K.got sink.old) (K.got sink.new) (K.faults sink.old) (K.faults sink.new) }

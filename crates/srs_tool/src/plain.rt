@@ -25,7 +25,12 @@ const LIMIT: u64 = 1 << 20;
 /// outside, and the printed cycle comes back at each of its points; or left with its cause. At `Refused` the bytes are
 /// the text of no polygon, and what was written says so. After a refusal the source has lost what was taken from it; at
 /// `NoMemory` nothing was written.
-pub fn plain<S: Source, K: Sink>(alloc: Global, words: &[String], source: &mut S, sink: &mut K) -> Status
+pub fn plain<S: Source, K: Sink>(
+    alloc: Global,
+    words: &[String],
+    source: &mut S,
+    sink: &mut K,
+) -> Status
     ensures usage { result ≡ Status.Usage → (limits : Budget) → IsForm (map string_bytes words.now) limits → ⊥ }
     ensures used { result ≢ Status.Usage → (limits : Budget) × IsForm (map string_bytes words.now) limits }
     ensures idle { result ≡ Status.Usage → (source.new ≡ source.old) × (sink.new ≡ sink.old) }
@@ -52,7 +57,12 @@ pub fn plain<S: Source, K: Sink>(alloc: Global, words: &[String], source: &mut S
 }
 
 // Reads the source to its end, and answers for what it gave.
-fn read_and_answer<S: Source, K: Sink>(alloc: Global, limits: &Limits, source: &mut S, sink: &mut K) -> Status
+fn read_and_answer<S: Source, K: Sink>(
+    alloc: Global,
+    limits: &Limits,
+    source: &mut S,
+    sink: &mut K,
+) -> Status
     ensures other { (result ≢ Status.Usage) × (result ≢ Status.Bad) }
     ensures done { result ≡ Status.Done →
         AnswersFor limits.now Status.Done (S.left source.old) (S.left source.new) (K.got sink.old) (K.got sink.new) }

@@ -6,9 +6,11 @@ use std::alloc::{AllocError, Global};
 use std::test::Fail;
 
 const ROOM: u64 = 1 << 16;
+
 const NEVER: i64 = -1;
 
 const CYCLE_ONE: &str = "polygon 3\nge -2 -1 4\nge -1 -2 4\nge -1 -1 4\nend\n";
+
 const CYCLE_ONE_CERTIFICATE: &str =
     "srs 1\npolygon 3\nge -2 -1 4\nge -1 -2 4\nge -1 -1 4\nlimits 0 1 16\nout 1 1\nend\n";
 
@@ -225,7 +227,11 @@ fn malformed_inputs(rt: HostRuntime) -> Result<(), Fail> {
     for input in inputs {
         let seen = play(rt.alloc(), &certify(input, Status::Refused, ""))?;
         assert_eq!(rt; seen.status, Status::Refused, "at {input:?}");
-        assert_eq!(rt; seen.sink.bytes(), b"refused input\n".as_slice(), "at {input:?}");
+        assert_eq!(rt;
+            seen.sink.bytes(),
+            b"refused input\n".as_slice(),
+            "at {input:?}"
+        );
     }
     Ok(())
 }

@@ -3,5 +3,5 @@ use Rattle.srs_tool.proofs.certify.certificate.Goals as goal
 
 pub unreachable-requires : goal.unreachable-requires
 unreachable-requires c =
-    let none = rw c.in-None-is at c.of.ensures in
+    let none = rw c.in_default.is at c.in_ok-cell.ensures in
     none (rw c.requires.region (polygon_has_point c.args.vertices.now c.requires.polygon))

@@ -1,7 +1,4 @@
-use Rattle.std.proofs.Common.{arith, Option, ◌≡◌}
-use Rattle.std.specs.Prelude.{IfNone}
-use Rattle.srs_path.specs.Views.{Budget, IsBudget}
-use Rattle.srs_tool.specs.Words.{SpellsLimits}
+use Rattle.std.proofs.Common.{arith}
 use Rattle.srs_tool.proofs.WordLemmas.{spelled_budget, none_by_range}
 use Rattle.srs_tool.proofs.words.limits_of.Goals as goal
 
@@ -17,5 +14,5 @@ returns-in-None-count_of-2-clause-none c = λ b s. c.in-None-count_of-2.ensures.
 pub returns-in-Some-count_of-2-clause-none : goal.returns-in-Some-count_of-2-clause-none
 returns-in-Some-count_of-2-clause-none c =
     none_by_range c.new.result c.new.ensures.none
-      (λ b s. spelled_budget c.args.depth.now c.args.cells.now c.args.wits.now c.in-Some.n c.in-Some-count_of.n c.in-Some-count_of-2.most_wits b
-        c.in-Some.ensures.some c.in-Some-count_of.ensures.some c.in-Some-count_of-2.ensures.some s)
+    (λ b s. spelled_budget c.args.depth.now c.args.cells.now c.args.wits.now c.in-Some.n c.in-Some-count_of.n c.in-Some-count_of-2.most_wits b
+    c.in-Some.ensures.some c.in-Some-count_of.ensures.some c.in-Some-count_of-2.ensures.some s)
