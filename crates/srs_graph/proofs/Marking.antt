@@ -1,5 +1,5 @@
 -- What one more mark changes.
-use Rattle.std.proofs.Common.{◌≡◌, ◌≢◌, ℕ, zero, suc, ◌+◌, ◌-◌, ◌<◌, ◌≤◌, List, [], ◌∷◌, ◌++◌, length, Bool, true, false, true≢false, Option, None, Some, arith, ap, subst, sym, ◌∙◌, refl, length-append, length-set}
+use Rattle.std.proofs.Common.{◌≡◌, ◌≢◌, ℕ, zero, suc, ◌+◌, ◌-◌, ◌<◌, List, [], ◌∷◌, ◌++◌, length, Bool, true, false, true≢false, Option, None, Some, arith, ap, subst, sym, ◌∙◌, refl, length-append, length-set}
 use Rattle.std.specs.Prelude.{is_none, is_some, cond}
 use Rattle.std.proofs.Math.ListN.{set}
 use Rattle.std.proofs.Math.Decide.{dec_lt}
@@ -11,7 +11,7 @@ use Rattle.srs_map.specs.Step.{origin}
 use Rattle.srs_path.proofs.WitnessLemmas.{pair_eq, pair-decides}
 use Rattle.srs_graph.specs.declared.rows.Row.{Row}
 use Rattle.srs_graph.specs.Networks.{pair_at}
-use Rattle.srs_graph.specs.Marks.{mark_at, Ranked, IsOpen, unmarked, AreMarks, IsPeeled, HasNoMarks}
+use Rattle.srs_graph.specs.Marks.{mark_at, Ranked, unmarked, AreMarks, HasNoMarks}
 
 pub by_eq : {P : Type 0} (a b : ℕ) → (a ≡ b → P) → (a ≢ b → P) → P
 by_eq {P} a b e d = elim (dec_lt a b) as (λ _. P) [
@@ -27,7 +27,7 @@ count_less ms k n h e =
     omega arith
 
 module _ (ps : List V2) (rows : List Row) (ms : List (Option ℕ)) (k n : ℕ) (h : k < length ms) (e : mark_at ms k ≡ None) where
-  keeps : (j m : ℕ) → mark_at ms j ≡ Some m → mark_at (set ms k (Some n)) j ≡ Some m
+  pub keeps : (j m : ℕ) → mark_at ms j ≡ Some m → mark_at (set ms k (Some n)) j ≡ Some m
   keeps j m f = get_or-set_other ms k j (Some n) None (λ s. none_some (sym e ∙ ap (mark_at ms) (sym s) ∙ f)) ∙ f
     where
       none_some : {m : ℕ} → None ≡ Some m → ⊥
@@ -82,43 +82,6 @@ module _ (ps : List V2) (rows : List Row) (ms : List (Option ℕ)) (k n : ℕ) (
           (λ s. omega (arith, at_k i q s f, low_k, length-set ms k (Some n)))
           (λ d. omega (arith, a.low i q (other i q d f), fewer, length-set ms k (Some n)))
 
--- one go through the pairs, at place k
-pub record Passing (ps : List V2) (rows : List Row) (old : List (Option ℕ)) (k : ℕ) (changed : Bool) (ms : List (Option ℕ)) : Type 0 where
-  pub marks : AreMarks ps rows ms
-  pub more : changed ≡ true → unmarked ms < unmarked old
-  pub fewer : unmarked ms ≤ unmarked old
-  pub done : changed ≡ false → (i : ℕ) → i < k → mark_at ms i ≡ None → IsOpen ps rows ms i
-
-module _ (ps : List V2) (rows : List Row) (old : List (Option ℕ)) where
-  pub passing_none : AreMarks ps rows old → Passing ps rows old 0 false old
-  passing_none a = record { marks = a; more = λ e. absurd (true≢false (sym e)); fewer = omega arith; done = λ _ i h. absurd (omega arith) }
-
-  -- at k there is a mark already, or none can be given
-  pub passing_on : (k : ℕ) (changed : Bool) (ms : List (Option ℕ)) → Passing ps rows old k changed ms → (mark_at ms k ≡ None → IsOpen ps rows ms k) → Passing ps rows old (k + 1) changed ms
-  passing_on k changed ms p o = record {
-    marks = p.marks;
-    more = p.more;
-    fewer = p.fewer;
-    done = λ e i h f. elim (dec_lt i k) as (λ _. IsOpen ps rows ms i) [
-      | yes l ↦ p.done e i l f
-      | no l ↦ let s : k ≡ i = omega arith in subst (IsOpen ps rows ms) s (o (ap (mark_at ms) s ∙ f))
-    ];
-  }
-
-  pub passing_mark : (k n : ℕ) (changed : Bool) (ms : List (Option ℕ)) → Passing ps rows old k changed ms → k < length ms → mark_at ms k ≡ None → Ranked ps rows ms k n → Passing ps rows old (k + 1) true (set ms k (Some n))
-  passing_mark k n changed ms p h e r = record {
-    marks = marked ps rows ms k n h e p.marks r;
-    more = λ _. omega (arith, count_less ms k n h e, p.fewer);
-    fewer = omega (arith, count_less ms k n h e, p.fewer);
-    done = λ f. absurd (true≢false f);
-  }
-
-  pub peeled : (k : ℕ) (ms : List (Option ℕ)) → Passing ps rows old k false ms → length ps ≤ k → IsPeeled ps rows ms
-  peeled k ms p h = record { marks = p.marks; left = λ i l f. p.done refl i (omega arith) f }
-
-pub passing_at : (ps : List V2) (rows : List Row) (old : List (Option ℕ)) (k : ℕ) (a b : Bool) (ms ns : List (Option ℕ)) → a ≡ b → ms ≡ ns → Passing ps rows old k b ns → Passing ps rows old k a ms
-passing_at ps rows old k a b ms ns e f p = subst (λ (x : Bool). Passing ps rows old k x ms) (sym e) (subst (λ (x : List (Option ℕ)). Passing ps rows old k b x) (sym f) p)
-
 abbrev one : List (Option ℕ)
 one = None ∷ []
 
@@ -158,7 +121,3 @@ marks_none ps rows ms a = record {
 pub no_some : (o : Option ℕ) → is_some o ≡ false → o ≡ None
 no_some None e = refl
 no_some (Some n) e = absurd (true≢false e)
-
-pub not_both : (o : Option ℕ) → o ≡ None → is_some o ≡ true → ⊥
-not_both None e f = true≢false (sym f)
-not_both (Some n) e f = let s : Some n ≡ None = e in absurd (true≢false (ap is_some s))

@@ -6,20 +6,14 @@ use Rattle.srs_map.specs.Step.{origin}
 use Rattle.srs_graph.specs.declared.rows.Row.{Row}
 use Rattle.srs_graph.specs.Networks.{pair_at, row_at, AreRows}
 use Rattle.srs_graph.specs.Marks.{mark_at, Ranked}
-
--- the row is marked from its start up to k, and top is one above the greatest of these marks, or 0 for none
-pub record Seen (r : Row) (ms : List (Option ℕ)) (k top : ℕ) : Type 0 where
-  pub each : (j : ℕ) → r.start ≤ j → j < k → (m : ℕ) × (mark_at ms j ≡ Some m) × (m < top)
-  pub best : r.start < k → (j : ℕ) × (m : ℕ) × (r.start ≤ j) × (j < k) × (mark_at ms j ≡ Some m) × (top ≡ m + 1)
-  pub none : k ≤ r.start → top ≡ 0
-  pub from : r.start ≤ k
+use Rattle.srs_graph.specs.Descents.{IsRead}
 
 module _ (r : Row) (ms : List (Option ℕ)) where
-  pub seen_none : Seen r ms r.start 0
-  seen_none = record { each = λ j a b. absurd (omega arith); best = λ h. absurd (omega arith); none = λ _. refl; from = omega arith }
+  pub read_none : IsRead r ms r.start 0
+  read_none = record { each = λ j a b. absurd (omega arith); best = λ h. absurd (omega arith); none = λ _. refl; from = omega arith; within = omega arith }
 
-  pub seen_more : (k top m new : ℕ) → Seen r ms k top → mark_at ms k ≡ Some m → (top ≤ m → new ≡ m + 1) → (m < top → new ≡ top) → Seen r ms (k + 1) new
-  seen_more k top m new s e high low = elim (dec_lt m top) as (λ _. Seen r ms (k + 1) new) [
+  pub read_more : (k top m new : ℕ) → IsRead r ms k top → k < r.start + r.len → mark_at ms k ≡ Some m → (top ≤ m → new ≡ m + 1) → (m < top → new ≡ top) → IsRead r ms (k + 1) new
+  read_more k top m new s i e high low = elim (dec_lt m top) as (λ _. IsRead r ms (k + 1) new) [
     | yes h ↦ let t : new ≡ top = low h in record {
       each = λ j a b. elim (dec_lt j k) as (λ _. (n : ℕ) × (mark_at ms j ≡ Some n) × (n < new)) [
         | yes l ↦ let x = s.each j a l in (x.0, x.1, omega (arith, x.2))
@@ -31,6 +25,7 @@ module _ (r : Row) (ms : List (Option ℕ)) where
       ];
       none = λ l. absurd (omega (arith, s.from));
       from = omega (arith, s.from);
+      within = omega arith;
     }
     | no h ↦ let t : new ≡ m + 1 = high (omega arith) in record {
       each = λ j a b. elim (dec_lt j k) as (λ _. (n : ℕ) × (mark_at ms j ≡ Some n) × (n < new)) [
@@ -40,14 +35,15 @@ module _ (r : Row) (ms : List (Option ℕ)) where
       best = λ b. (k, m, s.from, omega arith, e, t);
       none = λ l. absurd (omega (arith, s.from));
       from = omega (arith, s.from);
+      within = omega arith;
     }
   ]
 
-pub ranked_end : (ps : List V2) (rows : List Row) (ms : List (Option ℕ)) (i k top : ℕ) → AreRows (length ps) rows → i < length ps → pair_at ps i ≢ origin → (row_at rows i).start + (row_at rows i).len ≤ k → k ≤ (row_at rows i).start + (row_at rows i).len → Seen (row_at rows i) ms k top → Ranked ps rows ms i top
-ranked_end ps rows ms i k top a h z l u s = record {
-  at_zero = λ e. absurd (z e);
-  falls = λ _ j r. s.each j r.0 (omega (arith, r.1));
-  step = λ _. let x = s.best (omega (arith, a.some i h)) in (x.0, x.1, (x.2, omega (arith, x.3)), x.4, x.5);
+pub ranked_end : (ps : List V2) (rows : List Row) (ms : List (Option ℕ)) (i k top : ℕ) → AreRows (length ps) rows → i < length ps → pair_at ps i ≢ origin → k ≡ (row_at rows i).start + (row_at rows i).len → IsRead (row_at rows i) ms k top → Ranked ps rows ms i top
+ranked_end ps rows ms i k top a h z e s = record {
+  at_zero = λ o. absurd (z o);
+  falls = λ _ j r. s.each j r.0 (omega (arith, r.1, e));
+  step = λ _. let x = s.best (omega (arith, a.some i h, e)) in (x.0, x.1, (x.2, omega (arith, x.3, e)), x.4, x.5);
 }
 
 pub ranked_zero : (ps : List V2) (rows : List Row) (ms : List (Option ℕ)) (i : ℕ) → pair_at ps i ≡ origin → Ranked ps rows ms i 0

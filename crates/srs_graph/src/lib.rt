@@ -2,6 +2,7 @@
 //! cycle.
 #![tactic(auto)]
 
+mod descent;
 mod graphs;
 mod listing;
 mod peeling;
