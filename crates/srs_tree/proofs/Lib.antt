@@ -1,0 +1,9 @@
+pub mod HistoryLemmas
+pub mod TreeLemmas
+pub mod TreeCut
+pub mod Grow
+pub mod CellsLemmas
+pub mod PartitionAll
+pub mod PlannedWhole
+pub mod OutcomeOnce
+pub mod OnePlanLemmas
