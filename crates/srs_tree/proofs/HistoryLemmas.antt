@@ -6,7 +6,7 @@ use Rattle.srs_path.specs.declared.paths.Side.{Side}
 use Rattle.srs_path.specs.declared.paths.Side.TheVariants.{Ge, Lt}
 use Rattle.srs_path.specs.declared.outcomes.Outcome.{Outcome}
 use Rattle.srs_path.specs.Views.{Entry}
-use Rattle.srs_tree.specs.Tree.{History, path_eq, outcome_at, IsCellOf, IsLeafOf, IsPartition, region_at, halves_along, cut_half}
+use Rattle.srs_tree.specs.Tree.{History, Tree, path_eq, outcome_at, IsCellOf, IsLeafOf, IsPartition, region_at, halves_along, cut_half}
 use Rattle.srs_tree.specs.Legality.{MayFollow, IsLegal}
 use Rattle.srs_plane.specs.Regions.{Area, IsIn, HasPoint}
 
@@ -68,14 +68,14 @@ pub IsLegal-empty : (R0 : Area) (W : ℕ) → IsLegal R0 W []
 IsLegal-empty R0 W k e g = absurd (let u : true ≡ false = cc in true≢false u)
 
 -- the cell of a part is the cell of the parent with the side's half appended
-halves_along_snoc : (H : History) (above rest : List Side) (s : Side) → halves_along (outcome_at H) above (rest ++ s ∷ []) ≡ halves_along (outcome_at H) above rest ++ cut_half (outcome_at H (above ++ rest)) s
-halves_along_snoc H above [] s = append-nil _ ∙ ap (λ p. cut_half (outcome_at H p) s) (sym (append-nil above))
-halves_along_snoc H above (t ∷ rest) s =
-    ap (λ x. cut_half (outcome_at H above) t ++ x) (halves_along_snoc H (above ++ t ∷ []) rest s ∙ ap (λ p. halves_along (outcome_at H) (above ++ t ∷ []) rest ++ cut_half (outcome_at H p) s) (append_assoc above (t ∷ []) rest))
-    ∙ sym (append_assoc (cut_half (outcome_at H above) t) _ _)
+halves_along_snoc : (T : Tree) (above rest : List Side) (s : Side) → halves_along T above (rest ++ s ∷ []) ≡ halves_along T above rest ++ cut_half (T (above ++ rest)) s
+halves_along_snoc T above [] s = append-nil _ ∙ ap (λ p. cut_half (T p) s) (sym (append-nil above))
+halves_along_snoc T above (t ∷ rest) s =
+    ap (λ x. cut_half (T above) t ++ x) (halves_along_snoc T (above ++ t ∷ []) rest s ∙ ap (λ p. halves_along T (above ++ t ∷ []) rest ++ cut_half (T p) s) (append_assoc above (t ∷ []) rest))
+    ∙ sym (append_assoc (cut_half (T above) t) _ _)
 
-pub region_at-snoc : (R0 : Area) (H : History) (p : List Side) (s : Side) → region_at R0 (outcome_at H) (p ++ s ∷ []) ≡ region_at R0 (outcome_at H) p ++ cut_half (outcome_at H p) s
-region_at-snoc R0 H p s = ap (λ x. R0 ++ x) (halves_along_snoc H [] p s) ∙ sym (append_assoc R0 _ _)
+pub region_at-snoc : (R0 : Area) (T : Tree) (p : List Side) (s : Side) → region_at R0 T (p ++ s ∷ []) ≡ region_at R0 T p ++ cut_half (T p) s
+region_at-snoc R0 T p s = ap (λ x. R0 ++ x) (halves_along_snoc T [] p s) ∙ sym (append_assoc R0 _ _)
 
 -- the empty history: the root is the one leaf
 root_only : (p : List Side) → IsLeafOf (outcome_at []) p → p ≡ []

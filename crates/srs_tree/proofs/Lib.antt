@@ -6,4 +6,8 @@ pub mod CellsLemmas
 pub mod PartitionAll
 pub mod PlannedWhole
 pub mod OutcomeOnce
+pub mod Trees
+pub mod StandsLemmas
+pub mod Spots
+pub mod Descent
 pub mod OnePlanLemmas

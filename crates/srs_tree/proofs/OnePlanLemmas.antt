@@ -149,7 +149,7 @@ module _ (R0 : Area) (W : ℕ) (H : History) (some : HasPoint R0) (legal : IsLeg
   cell_point p (inr c) =
       let t = side_point c.parent c.form c.side c.cut in
       let same : region_at R0 (outcome_at H) p ≡ region_at R0 (outcome_at H) c.parent ++ half_on c.side c.form ∷ [] =
-      ap (region_at R0 (outcome_at H)) c.is ∙ region_at-snoc R0 H c.parent c.side ∙ ap (λ (o : Option Outcome). region_at R0 (outcome_at H) c.parent ++ cut_half o c.side) c.cut in
+      ap (region_at R0 (outcome_at H)) c.is ∙ region_at-snoc R0 (outcome_at H) c.parent c.side ∙ ap (λ (o : Option Outcome). region_at R0 (outcome_at H) c.parent ++ cut_half o c.side) c.cut in
       (t.0, subst (λ (R : Area). IsIn R t.0) (sym same) (IsIn-push (region_at R0 (outcome_at H) c.parent) (half_on c.side c.form) t.0 t.1 (on_side c.side c.form t.0 t.2)))
 
 -- what a plan has at a path is the outcome of its cell

@@ -106,7 +106,7 @@ module _ (R0 : Area) (W : ℕ) (H : History) (legal : IsLegal R0 W H) (parts : I
   }
 
   part_region : (s : Side) → region_at R0 (outcome_at after) (p0 ++ s ∷ []) ≡ region_at R0 (outcome_at H) p0 ++ half_on s h ∷ []
-  part_region s = region_at-snoc R0 after p0 s ∙ ap₂ (λ (x : Area) (o : Option Outcome). x ++ cut_half o s) (region_at_stays R0 W H legal _ p0 may.there) cut_there
+  part_region s = region_at-snoc R0 (outcome_at after) p0 s ∙ ap₂ (λ (x : Area) (o : Option Outcome). x ++ cut_half o s) (region_at_stays R0 W H legal _ p0 may.there) cut_there
 
   part_holds : (r : Point) (s : Side) → HoldsAt R0 (outcome_at H) r p0 → Sign s (value h r) → HoldsAt R0 (outcome_at after) r (p0 ++ s ∷ [])
   part_holds r s old k = record {

@@ -40,9 +40,9 @@ module _ (R0 : Area) (W : ℕ) (H : History) (legal : IsLegal R0 W H) where
   stays_by K (suc n) p h (inr c) =
       let up : IsCellOf (outcome_at H) c.parent = cell_of_outcome R0 W H legal c.parent _ c.cut in
       let rest : region_at R0 (outcome_at (H ++ K)) c.parent ≡ region_at R0 (outcome_at H) c.parent = stays_by K n c.parent (omega (arith, ap length c.is, length-append c.parent (c.side ∷ []))) up in
-      ap (region_at R0 (outcome_at (H ++ K))) c.is ∙ region_at-snoc R0 (H ++ K) c.parent c.side
+      ap (region_at R0 (outcome_at (H ++ K))) c.is ∙ region_at-snoc R0 (outcome_at (H ++ K)) c.parent c.side
       ∙ ap₂ (λ (x : Area) (o : Option Outcome). x ++ cut_half o c.side) rest (outcome_at_stays H K c.parent _ c.cut ∙ sym c.cut)
-      ∙ sym (region_at-snoc R0 H c.parent c.side) ∙ sym (ap (region_at R0 (outcome_at H)) c.is)
+      ∙ sym (region_at-snoc R0 (outcome_at H) c.parent c.side) ∙ sym (ap (region_at R0 (outcome_at H)) c.is)
 
   -- a cell's region stays the same when events are appended
   pub region_at_stays : (K : History) (p : List Side) → IsCellOf (outcome_at H) p → region_at R0 (outcome_at (H ++ K)) p ≡ region_at R0 (outcome_at H) p

@@ -1,3 +1,6 @@
 pub mod Tree
 pub mod Legality
 pub mod Rounds
+pub mod Snapshots
+pub mod Growth
+pub mod Nodes

@@ -1,6 +1,11 @@
-//! The tree of a history: its cells, when a history is legal, and plans.
+//! The tree of a history: its cells, when a history is legal, and plans; and versions of a tree.
 #![tactic(auto)]
 
 mod laws;
+mod nodes;
+mod refusals;
+mod versions;
 
 pub use laws::histories;
+pub use refusals::TreeErr;
+pub use versions::Version;
