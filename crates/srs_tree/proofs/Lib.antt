@@ -10,4 +10,7 @@ pub mod Trees
 pub mod StandsLemmas
 pub mod Spots
 pub mod Descent
+pub mod Places
+pub mod Growing
+pub mod Regions
 pub mod OnePlanLemmas

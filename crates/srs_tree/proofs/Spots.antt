@@ -62,7 +62,7 @@ tree_some (x ∷ xs) p o e =
 pub tail_once : (x : Spot) (xs : List Spot) → AllPairs ◌≢◌ (paths_of (x ∷ xs)) → AllPairs ◌≢◌ (paths_of xs)
 tail_once x xs once i j d l m = once (suc i) (suc j) d (omega arith) (omega arith)
 
-path_at : (xs : List Spot) (i : ℕ) (x : Spot) (d : List Side) → slice_get xs i ≡ Some x → get_or (paths_of xs) i d ≡ x.path
+pub path_at : (xs : List Spot) (i : ℕ) (x : Spot) (d : List Side) → slice_get xs i ≡ Some x → get_or (paths_of xs) i d ≡ x.path
 path_at [] i x d e = absurd (none-some x e)
 path_at (y ∷ xs) zero x d e = ap (λ (z : Spot). z.path) (same_Some y x e)
 path_at (y ∷ xs) (suc i) x d e = path_at xs i x d e

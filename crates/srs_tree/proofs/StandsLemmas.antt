@@ -61,6 +61,9 @@ side_same Ge Lt e = absurd (less_equal e)
 side_same Lt Ge e = absurd (greater_equal e)
 side_same Lt Lt e = refl
 
+pub path_same : map.IsAntisymmetric (slice_cmp side_cmp)
+path_same = map.slice_cmp-IsAntisymmetric side_same
+
 pub path_total : IsTotalOrder (slice_cmp side_cmp)
 path_total = lists_total side_total
 
