@@ -38,11 +38,11 @@ all_by_recursion P [] a = tt
 all_by_recursion P (x ∷ xs) a = (All-head P x xs a, all_by_recursion P xs (All-tail P x xs a))
 
 -- ---- the halves of a region as forms
+pub boxed-push : (S : Area) (h : Half) → boxed (S ++ h ∷ []) ≡ boxed S ++ h.form ∷ []
+boxed-push S h = ap (λ fs. box ++ fs) (map-append (λ h. h.form) S (h ∷ []))
+
 pub boxed_more : (R : Area) (i : ℕ) (h : Half) → i < length R → slice_get R i ≡ Some h → boxed (take (i + 1) R) ≡ boxed (take i R) ++ h.form ∷ []
 boxed_more R i h lt e = ap boxed (take_next R i h lt e) ∙ boxed-push (take i R) h
-  where
-    boxed-push : (S : Area) (h : Half) → boxed (S ++ h ∷ []) ≡ boxed S ++ h.form ∷ []
-    boxed-push S h = ap (λ fs. box ++ fs) (map-append (λ h. h.form) S (h ∷ []))
 
 -- what holds of each form of the box and of the halves
 pub boxed_all : (P : LinearForm → Type 0) (R : Area) → All P box → All (λ h. P h.form) R → All P (boxed R)
@@ -162,23 +162,29 @@ pub no_corner : (R : Area) → ((z : Point) → IsInHalves (boxed R) z → ⊥) 
 no_corner R none near p = none p.0 (in_boxed R p.0 p.1 (near p.0 p.1))
 
 -- ---- one half more
-pub corners_whole : (R : Area) (i : ℕ) (h : Half) (cs : List Point) → i < length R → slice_get R i ≡ Some h
-    → AreCorners (take i R) cs → IsAbove h.form cs → AreCorners (take (i + 1) R) cs
-corners_whole R i h cs lt e k up = record {
-  hull = rw (boxed_more R i h lt e) (whole_left (boxed (take i R)) cs h.form k.hull up);
+pub whole_more : (R : Area) (h : Half) (cs : List Point) → AreCorners R cs → IsAbove h.form cs → AreCorners (R ++ h ∷ []) cs
+whole_more R h cs k up = record {
+  hull = rw (boxed-push R h) (whole_left (boxed R) cs h.form k.hull up);
   sized = k.sized;
   some = k.some;
-  few = let old = k.few in rw (take_next R i h lt e) (omega (arith, length-append (take i R) (h ∷ [])));
+  few = let old = k.few in omega (arith, length-append R (h ∷ []));
 }
+
+pub part_more : (R : Area) (h : Half) (cs us : List Point) → AreCorners R cs → IsPart (boxed R) cs h.form us → AreCorners (R ++ h ∷ []) us
+part_more R h cs us k p = record {
+  hull = rw (boxed-push R h) p.hull;
+  sized = p.sized;
+  some = p.some;
+  few = let old = k.few in let new = p.few in omega (arith, length-append R (h ∷ []));
+}
+
+pub corners_whole : (R : Area) (i : ℕ) (h : Half) (cs : List Point) → i < length R → slice_get R i ≡ Some h
+    → AreCorners (take i R) cs → IsAbove h.form cs → AreCorners (take (i + 1) R) cs
+corners_whole R i h cs lt e k up = rw (take_next R i h lt e) (whole_more (take i R) h cs k up)
 
 pub corners_part : (R : Area) (i : ℕ) (h : Half) (cs us : List Point) → i < length R → slice_get R i ≡ Some h
     → AreCorners (take i R) cs → IsPart (boxed (take i R)) cs h.form us → AreCorners (take (i + 1) R) us
-corners_part R i h cs us lt e k p = record {
-  hull = rw (boxed_more R i h lt e) p.hull;
-  sized = p.sized;
-  some = p.some;
-  few = let old = k.few in let new = p.few in rw (take_next R i h lt e) (omega (arith, length-append (take i R) (h ∷ [])));
-}
+corners_part R i h cs us lt e k p = rw (take_next R i h lt e) (part_more (take i R) h cs us k p)
 
 pub corners_nothing : (R : Area) (i : ℕ) (h : Half) (cs : List Point) → i < length R → slice_get R i ≡ Some h
     → AreCorners (take i R) cs → IsBelow h.form cs → (z : Point) → IsInHalves (boxed R) z → ⊥

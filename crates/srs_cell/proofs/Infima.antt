@@ -25,6 +25,7 @@ asks_mix Ge k l r a b e hk hl ha hb = add _ _ _ e (mul_nonneg k a hk ha) (mul_no
   where
     not_below : (a : ℤ) → pos 0 <ℤ a → pos 0 ≤ℤ a
     not_below a h = omega (arith, linear)
+
     add : (r a b : ℤ) → r ≡ a +ℤ b → pos 0 ≤ℤ a → pos 0 ≤ℤ b → pos 0 ≤ℤ r
     add r a b e h k = omega (arith, linear)
 asks_mix Gt k l r a b e hk hl ha hb = add _ _ _ e (mul_nonneg k a hk ha) (mul_pos l b hl hb)
@@ -38,32 +39,34 @@ mix_in R k l c s hk hl c_in s_in =
     record {
       is_point = deep _ _ _ (mix-d k l c s) (mul_nonneg k c.d hk (least _ c_in.is_point)) (mul_pos l s.d hl (above _ s_in.is_point));
       halves = recursion_from_All (λ h. IsInHalf h m) R (λ i d lt.
-        let h = get_or R i d in
-        asks_mix h.kind k l _ _ _ (value-mix k l h.form c s) hk hl
+          let h = get_or R i d in
+          asks_mix h.kind k l _ _ _ (value-mix k l h.form c s) hk hl
           (All-from_recursion (λ h. pos 0 ≤ℤ value h.form c) R c_in.halves i d lt)
           (All-from_recursion (λ h. IsInHalf h s) R s_in.halves i d lt));
     }
   where
     least : (a : ℤ) → pos 1 ≤ℤ a → pos 0 ≤ℤ a
     least a h = omega (arith, linear)
+
     above : (a : ℤ) → pos 1 ≤ℤ a → pos 0 <ℤ a
     above a h = omega (arith, linear)
+
     deep : (r a b : ℤ) → r ≡ a +ℤ b → pos 0 ≤ℤ a → pos 0 <ℤ b → pos 1 ≤ℤ r
     deep r a b e h k = omega (arith, linear)
 
 pub closed_in : (R : Area) (z : Point) → IsIn R z → IsInClosed R z
 closed_in R z i = record {
-    is_point = i.is_point;
-    halves = recursion_from_All (λ h. pos 0 ≤ℤ value h.form z) R
+  is_point = i.is_point;
+  halves = recursion_from_All (λ h. pos 0 ≤ℤ value h.form z) R
       (All-weaker (λ h. IsInHalf h z) (λ h. pos 0 ≤ℤ value h.form z) (λ h k. asked h.kind (value h.form z) k) R (All-from_recursion (λ h. IsInHalf h z) R i.halves));
-  }
+}
 
 -- a point of the halves of R and of the box
 pub closed_boxed : (R : Area) (z : Point) → IsInHalves (boxed R) z → IsInClosed R z
 closed_boxed R z i = record {
-    is_point = deep _ i.deep;
-    halves = recursion_from_All (λ h. pos 0 ≤ℤ value h.form z) R (boxed_halves (λ h. pos 0 ≤ℤ value h z) R i.each);
-  }
+  is_point = deep _ i.deep;
+  halves = recursion_from_All (λ h. pos 0 ≤ℤ value h.form z) R (boxed_halves (λ h. pos 0 ≤ℤ value h z) R i.each);
+}
   where
     deep : (a : ℤ) → pos 0 <ℤ a → pos 1 ≤ℤ a
     deep a h = omega (arith, linear)
@@ -84,30 +87,36 @@ module _ (R : Area) (cs : List Point) (sample : Point) (cell : IsCell R cs sampl
 
   pub infimum : IsInfimum R f (value f c) c.d
   infimum = record {
-      bound = λ z z_in.
+    bound = λ z z_in.
         low_bound (boxed R) cs f (value f c) c.d cell.corners.hull
-          (All-weaker (λ e. (value f c *ℤ e.d) ≤ℤ (value f e *ℤ c.d)) (λ e. (value f c *ℤ e.d) ≤ℤ (c.d *ℤ value f e)) (λ e h. turned _ _ _ (mul_comm (value f e) c.d) h) cs corner.least)
-          z (in_boxed R z z_in (cell.near z z_in));
-      greatest = λ n e he lt.
+        (All-weaker (λ e. (value f c *ℤ e.d) ≤ℤ (value f e *ℤ c.d)) (λ e. (value f c *ℤ e.d) ≤ℤ (c.d *ℤ value f e)) (λ e h. turned _ _ _ (mul_comm (value f e) c.d) h) cs corner.least)
+        z (in_boxed R z z_in (cell.near z z_in));
+    greatest = λ n e he lt.
         let g = combine n depth (neg_ℤ e) f in
-        let w = near g c sample (up_at n e lt) in
-        (mix w.0 c (pos 1) sample,
-         mix_in R w.0 (pos 1) c sample w.1 one (closed_boxed R c corner_in) cell.inside,
-         under _ _ _ (value-g n e (mix w.0 c (pos 1) sample)) w.2);
-    }
+        let w = near g c sample (up_at n e lt) in (
+          mix w.0 c (pos 1) sample,
+          mix_in R w.0 (pos 1) c sample w.1 one (closed_boxed R c corner_in) cell.inside,
+          under _ _ _ (value-g n e (mix w.0 c (pos 1) sample)) w.2,
+        );
+  }
     where
       turned : (a b c : ℤ) → b ≡ c → a ≤ℤ b → a ≤ℤ c
       turned a b c e h = omega (arith, linear)
+
       one : pos 0 <ℤ pos 1
       one = omega (arith, linear)
+
       value-g : (n e : ℤ) (z : Point) → value (combine n depth (neg_ℤ e) f) z ≡ n *ℤ z.d -ℤ e *ℤ value f z
       value-g n e z =
           value-combine n (neg_ℤ e) depth f z ∙ ap (λ x. n *ℤ x +ℤ neg_ℤ e *ℤ value f z) (value-depth z)
           ∙ ring (n ∷ z.d ∷ e ∷ value f z ∷ []) (v 0 ⊗ v 1 ⊕ minus (v 2) ⊗ v 3) (v 0 ⊗ v 1 ⊖ v 2 ⊗ v 3) tt
+
       under : (r a b : ℤ) → r ≡ a -ℤ b → pos 0 <ℤ r → b <ℤ a
       under r a b e h = omega (arith, linear)
+
       up : (r a b x : ℤ) → r ≡ a -ℤ b → b ≡ x → x <ℤ a → pos 0 <ℤ r
       up r a b x e g h = omega (arith, linear)
+
       up_at : (n e : ℤ) → (value f c *ℤ e) <ℤ (n *ℤ c.d) → pos 0 <ℤ value (combine n depth (neg_ℤ e) f) c
       up_at n e lt = up _ _ _ _ (value-g n e c) (mul_comm e (value f c)) lt
 
@@ -115,22 +124,23 @@ module _ (R : Area) (cs : List Point) (sample : Point) (cell : IsCell R cs sampl
     -- where the sum is in each half, it takes the infimum
     pub sum_takes : All (λ h. IsInHalf h total) R → Takes R f (value f c) c.d
     sum_takes inside = (
-        total,
-        record { is_point = sum.is_point; halves = recursion_from_All (λ h. IsInHalf h total) R inside },
-        mul_comm c.d (value f total) ∙ sum.same
-      )
+      total,
+      record { is_point = sum.is_point; halves = recursion_from_All (λ h. IsInHalf h total) R inside },
+      mul_comm c.d (value f total) ∙ sum.same,
+    )
 
     sides : (k : LinearForm) → IsAbove k cs → All (λ e. ((value gap e ≡ pos 0) × (value k e ≤ℤ value k total)) ⊎ (pos 0 <ℤ value gap e)) cs
     sides k above i d lt =
         let e = get_or cs i d in
         by_lt_z (pos 0) (value gap e) (λ up. inr up)
-          (λ low.
-            let least = corner.least i d lt in
-            let zero = zero_gap _ _ _ _ (value-gap e) (mul_comm c.d (value f e)) low least in
-            inl (zero, sum.parts k above i d lt (even _ _ _ _ (value-gap e) (mul_comm c.d (value f e)) low)))
+        (λ low.
+        let least = corner.least i d lt in
+        let zero = zero_gap _ _ _ _ (value-gap e) (mul_comm c.d (value f e)) low least in
+        inl (zero, sum.parts k above i d lt (even _ _ _ _ (value-gap e) (mul_comm c.d (value f e)) low)))
       where
         zero_gap : (r a b x : ℤ) → r ≡ a -ℤ b → a ≡ x → r ≤ℤ pos 0 → b ≤ℤ x → r ≡ pos 0
         zero_gap r a b x e g h k = omega (arith, linear)
+
         even : (r a b x : ℤ) → r ≡ a -ℤ b → a ≡ x → r ≤ℤ pos 0 → x ≤ℤ b
         even r a b x e g h = omega (arith, linear)
 
@@ -149,8 +159,8 @@ module _ (R : Area) (cs : List Point) (sample : Point) (cell : IsCell R cs sampl
         let z_in = t.1 in
         let above : IsAbove h.form cs = λ j e jt. boxed_halves (λ k. pos 0 ≤ℤ value k (get_or cs j e)) R (cell.corners.hull.inside j e jt).each i d lt in
         asks_sum h.kind (value h.form total) (value h.form z) (sum.above h.form above)
-          (λ low. attained_core (boxed R) cs gap h.form (value h.form total) cell.corners.hull above (sides h.form above) low z (in_boxed R z z_in (cell.near z z_in)) (zero _ _ _ (value-gap z) t.2))
-          (All-from_recursion (λ h. IsInHalf h z) R z_in.halves i d lt)
+        (λ low. attained_core (boxed R) cs gap h.form (value h.form total) cell.corners.hull above (sides h.form above) low z (in_boxed R z z_in (cell.near z z_in)) (zero _ _ _ (value-gap z) t.2))
+        (All-from_recursion (λ h. IsInHalf h z) R z_in.halves i d lt)
       where
         zero : (r a b : ℤ) → r ≡ a -ℤ b → a ≡ b → r ≡ pos 0
         zero r a b e g = omega (arith, linear)
@@ -159,11 +169,11 @@ module _ (R : Area) (cs : List Point) (sample : Point) (cell : IsCell R cs sampl
     pub low_is : (n d : ℤ) (b : Bool) → n ≡ value f c → d ≡ c.d → (IsTrue b → All (λ h. IsInHalf h total) R) → (All (λ h. IsInHalf h total) R → IsTrue b)
         → IsLow R f (record { num = n; den = d; attained = b })
     low_is n d b en ed inside all = rw (en, ed) (record {
-        positive = (sized_among cs c cell.corners.sized corner.among).is_point;
-        infimum = infimum;
-        attained = λ t. sum_takes (inside t);
-        all_attained = λ t. all (takes_sum t);
-      })
+      positive = (sized_among cs c cell.corners.sized corner.among).is_point;
+      infimum = infimum;
+      attained = λ t. sum_takes (inside t);
+      all_attained = λ t. all (takes_sum t);
+    })
 
 -- ---- the supremum by the infimum of the opposite form
 neg_mul : (a b : ℤ) → neg_ℤ a *ℤ b ≡ neg_ℤ (a *ℤ b)
@@ -187,27 +197,29 @@ module _ (R : Area) (f : LinearForm) (num den : ℤ) where
 
   supremum : IsInfimum R (opposite f) num den → IsSupremum R f (neg_ℤ num) den
   supremum low = record {
-      bound = λ z z_in. under _ _ _ _ (value-turned den z) (neg_mul num z.d) (low.bound z z_in);
-      least = λ n e he lt.
+    bound = λ z z_in. under _ _ _ _ (value-turned den z) (neg_mul num z.d) (low.bound z z_in);
+    least = λ n e he lt.
         let w = low.greatest (neg_ℤ n) e he (below _ _ _ _ (neg_mul num e) (neg_mul n den) lt) in
         (w.0, w.1, over _ _ _ _ (value-turned e w.0) (neg_mul n w.0.d) w.2);
-    }
+  }
     where
       under : (x y a b : ℤ) → x ≡ neg_ℤ y → a ≡ neg_ℤ b → b ≤ℤ x → y ≤ℤ a
       under x y a b e g h = omega (arith, linear)
+
       below : (x y a b : ℤ) → x ≡ neg_ℤ y → a ≡ neg_ℤ b → b <ℤ x → y <ℤ a
       below x y a b e g h = omega (arith, linear)
+
       over : (x y a b : ℤ) → x ≡ neg_ℤ y → a ≡ neg_ℤ b → x <ℤ a → b <ℤ y
       over x y a b e g h = omega (arith, linear)
 
 -- the bound by the negated number n
 pub high_is : (R : Area) (f : LinearForm) (low : Bound) → IsLow R (opposite f) low → IsHigh R f (record { num = pos 0 -ℤ low.num; den = low.den; attained = low.attained })
 high_is R f low is = rw (turned low.num) (record {
-    positive = is.positive;
-    supremum = supremum R f low.num low.den is.infimum;
-    attained = λ t. takes_turned R f low.num low.den (is.attained t);
-    all_attained = λ t. is.all_attained (takes_back R f low.num low.den t);
-  })
+  positive = is.positive;
+  supremum = supremum R f low.num low.den is.infimum;
+  attained = λ t. takes_turned R f low.num low.den (is.attained t);
+  all_attained = λ t. is.all_attained (takes_back R f low.num low.den t);
+})
   where
     turned : (a : ℤ) → pos 0 -ℤ a ≡ neg_ℤ a
     turned a = omega (arith, linear)

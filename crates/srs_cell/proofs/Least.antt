@@ -29,12 +29,16 @@ quotient_through a d b e c g hd he hg h k =
   where
     at_least : (a : ℤ) → pos 1 ≤ℤ a → pos 0 ≤ℤ a
     at_least a h = omega (arith, linear)
+
     above : (a : ℤ) → pos 1 ≤ℤ a → pos 0 <ℤ a
     above a h = omega (arith, linear)
+
     gap : (a b : ℤ) → a ≤ℤ b → pos 0 ≤ℤ (b -ℤ a)
     gap a b h = omega (arith, linear)
+
     add : (a b s : ℤ) → a +ℤ b ≡ s → pos 0 ≤ℤ a → pos 0 ≤ℤ b → pos 0 ≤ℤ s
     add a b s e h k = omega (arith, linear)
+
     closed : (a b : ℤ) → pos 0 ≤ℤ (b -ℤ a) → a ≤ℤ b
     closed a b h = omega (arith, linear)
 
@@ -51,7 +55,7 @@ module _ (f : LinearForm) (cs : List Point) (sized : All (IsPointWithin (2 ^ 77)
   pub least_stays : (e : Point) → IsLeast f (take i cs) e → (IsLower f c e → ⊥) → IsLeast f (take (i + 1) cs) e
   least_stays e least off =
       All-more (λ x. (value f e *ℤ x.d) ≤ℤ (value f x *ℤ e.d)) cs i c lt least
-        (rw (sym read) (not_less _ _ off))
+      (rw (sym read) (not_less _ _ off))
 
   -- the corner number i is less
   pub least_moves : (e : Point) → Contains cs e → IsLeast f (take i cs) e → IsLower f c e → IsLeast f (take (i + 1) cs) c
@@ -59,9 +63,9 @@ module _ (f : LinearForm) (cs : List Point) (sized : All (IsPointWithin (2 ^ 77)
       let c_deep = (All-contains (IsPointWithin (2 ^ 77)) cs c sized member).is_point in
       let e_deep = (All-contains (IsPointWithin (2 ^ 77)) cs e sized e_in).is_point in
       All-more (λ x. (value f c *ℤ x.d) ≤ℤ (value f x *ℤ c.d)) cs i c lt
-        (λ j d jt. quotient_through (value f c) c.d (value f e) e.d _ _ c_deep e_deep
-          (All-take (IsPointWithin (2 ^ 77)) i cs sized j d jt).is_point (not_above _ _ low) (least j d jt))
-        (rw (sym read) (same (value f c *ℤ c.d)))
+      (λ j d jt. quotient_through (value f c) c.d (value f e) e.d _ _ c_deep e_deep
+      (All-take (IsPointWithin (2 ^ 77)) i cs sized j d jt).is_point (not_above _ _ low) (least j d jt))
+      (rw (sym read) (same (value f c *ℤ c.d)))
     where
       same : (a : ℤ) → a ≤ℤ a
       same a = omega (arith, linear)
@@ -72,11 +76,11 @@ least_all f cs i c h among least = record { among = among; least = rw (take_all 
 -- ---- the sum of the corners that take the least value
 pub sum_none : (f : LinearForm) (cs : List Point) (c : Point) → All (IsPointWithin (2 ^ 77)) cs → Contains cs c → IsLeastSum f cs [] c c
 sum_none f cs c sized among = record {
-    same = refl;
-    is_point = (All-contains (IsPointWithin (2 ^ 77)) cs c sized among).is_point;
-    above = λ k up. All-contains (λ x. pos 0 ≤ℤ value k x) cs c up among;
-    parts = λ k above. All-nil (λ e. (value f e *ℤ c.d) ≤ℤ (value f c *ℤ e.d) → value k e ≤ℤ value k c);
-  }
+  same = refl;
+  is_point = (All-contains (IsPointWithin (2 ^ 77)) cs c sized among).is_point;
+  above = λ k up. All-contains (λ x. pos 0 ≤ℤ value k x) cs c up among;
+  parts = λ k above. All-nil (λ e. (value f e *ℤ c.d) ≤ℤ (value f c *ℤ e.d) → value k e ≤ℤ value k c);
+}
 
 plus-d : (u w : Point) → (plus u w).d ≡ u.d +ℤ w.d
 unfolding plus
@@ -86,13 +90,13 @@ module _ (f : LinearForm) (cs : List Point) (i : ℕ) (c total e : Point) (lt : 
   -- the corner number i is greater
   pub sum_stays : IsLower f c e → IsLeastSum f cs (take (i + 1) cs) c total
   sum_stays low = record {
-      same = sum.same;
-      is_point = sum.is_point;
-      above = sum.above;
-      parts = λ k above.
+    same = sum.same;
+    is_point = sum.is_point;
+    above = sum.above;
+    parts = λ k above.
         All-more (λ x. (value f x *ℤ c.d) ≤ℤ (value f c *ℤ x.d) → value k x ≤ℤ value k total) cs i e lt (sum.parts k above)
-          (rw (sym read) (λ high. absurd (clash _ _ low high)));
-    }
+        (rw (sym read) (λ high. absurd (clash _ _ low high)));
+  }
     where
       clash : (a b : ℤ) → a <ℤ b → b ≤ℤ a → ⊥
       clash a b h k = omega (arith, linear)
@@ -106,25 +110,30 @@ module _ (f : LinearForm) (cs : List Point) (i : ℕ) (c total e : Point) (lt : 
         is_point = deeper _ _ _ (plus-d total e) sum.is_point (All-contains (IsPointWithin (2 ^ 77)) cs e sized e_in).is_point;
         above = λ k up. add _ _ _ (value-plus k total e) (sum.above k up) (All-contains (λ x. pos 0 ≤ℤ value k x) cs e up e_in);
         parts = λ k above.
-          let total_up = sum.above k above in
-          let e_up = All-contains (λ x. pos 0 ≤ℤ value k x) cs e above e_in in
-          All-more (λ x. (value f x *ℤ c.d) ≤ℤ (value f c *ℤ x.d) → value k x ≤ℤ value k (plus total e)) cs i e lt
+            let total_up = sum.above k above in
+            let e_up = All-contains (λ x. pos 0 ≤ℤ value k x) cs e above e_in in
+            All-more (λ x. (value f x *ℤ c.d) ≤ℤ (value f c *ℤ x.d) → value k x ≤ℤ value k (plus total e)) cs i e lt
             (λ j d jt h. grown _ _ _ _ (value-plus k total e) (sum.parts k above j d jt h) e_up)
             (rw (sym read) (λ _. first _ _ _ (value-plus k total e) total_up));
       }
     where
       even : (a b : ℤ) → a ≤ℤ b → b ≤ℤ a → a ≡ b
       even a b h k = omega (arith, linear)
+
       both : (t s u d g w n : ℤ) → s ≡ t +ℤ u → n ≡ d +ℤ g → t *ℤ c.d ≡ w *ℤ d → u *ℤ c.d ≡ w *ℤ g → s *ℤ c.d ≡ w *ℤ n
       both t s u d g w n a b h k =
           ap (λ x. x *ℤ c.d) a ∙ ring (t ∷ u ∷ c.d ∷ []) ((v 0 ⊕ v 1) ⊗ v 2) (v 0 ⊗ v 2 ⊕ v 1 ⊗ v 2) tt ∙ ap₂ ◌+ℤ◌ h k
           ∙ ring (w ∷ d ∷ g ∷ []) (v 0 ⊗ v 1 ⊕ v 0 ⊗ v 2) (v 0 ⊗ (v 1 ⊕ v 2)) tt ∙ ap (λ x. w *ℤ x) (sym b)
+
       deeper : (r a b : ℤ) → r ≡ a +ℤ b → pos 1 ≤ℤ a → pos 1 ≤ℤ b → pos 1 ≤ℤ r
       deeper r a b e h k = omega (arith, linear)
+
       add : (r a b : ℤ) → r ≡ a +ℤ b → pos 0 ≤ℤ a → pos 0 ≤ℤ b → pos 0 ≤ℤ r
       add r a b e h k = omega (arith, linear)
+
       grown : (x t r e : ℤ) → r ≡ t +ℤ e → x ≤ℤ t → pos 0 ≤ℤ e → x ≤ℤ r
       grown x t r e a h k = omega (arith, linear)
+
       first : (r t e : ℤ) → r ≡ t +ℤ e → pos 0 ≤ℤ t → e ≤ℤ r
       first r t e a h = omega (arith, linear)
 

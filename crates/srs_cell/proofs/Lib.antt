@@ -8,6 +8,7 @@ pub mod BoxHull
 pub mod Cuts
 pub mod Areas
 pub mod Closed
+pub mod Divided
 pub mod Least
 pub mod Infima
 pub mod LeastFloors

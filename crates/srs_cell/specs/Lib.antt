@@ -3,3 +3,4 @@ pub mod Cutting
 pub mod Corners
 pub mod Bounds
 pub mod Moves
+pub mod Parts

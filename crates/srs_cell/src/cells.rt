@@ -1,10 +1,10 @@
 // Cells, and how they are made.
-ghost use Rattle.std.specs.Prelude.{◌≡◌, ◌↔◌, IsTrue, IfOk, MatchOption, All};
+ghost use Rattle.std.specs.Prelude.{◌≡◌, ◌<◌, ◌↔◌, [], ◌∷◌, ◌++◌, length, IsTrue, IfOk, IsSome, MatchOption, All};
 ghost use Rattle.srs_plane.specs.Regions.{IsIn, IsInHalf, HasPoint};
 ghost use Rattle.srs_num.specs.Points.{Point};
-ghost use Rattle.srs_cell.specs.Corners.{IsCell};
+ghost use Rattle.srs_cell.specs.Corners.{AreCorners, IsCell};
 
-use crate::corners::{copied, corners_of};
+use crate::corners::{copied, corners_of, corners_with};
 use srs_num::{Corner, NoMemory, sum};
 use srs_plane::{Half, Kind, Region};
 use std::alloc::Global;
@@ -39,16 +39,7 @@ impl Cell {
         let Some(corners) = corners_of(alloc, &region)? else {
             return Ok(None);
         };
-        // Where some point is strictly inside an open edge, so is the sum of all corners.
-        let sample = sum(&corners);
-        if !is_inside(&region, &sample) {
-            return Ok(None);
-        }
-        Ok(Some(Cell {
-            region,
-            sample,
-            corners,
-        }))
+        Ok(inhabited(region, corners))
     }
 
     /// The region.
@@ -77,12 +68,45 @@ impl Cell {
         })
     }
 
+    // The cell with the half appended, from the corners of this one. `None` exactly where it has no point.
+    pub(crate) fn part(&self, alloc: Global, half: Half) -> Result<Option<Cell>, NoMemory>
+        requires { length self.now < 80 }
+        ensures part { IfOk result (λ found. MatchOption found (HasPoint (self.now ++ half ∷ []) → ⊥) (λ cell. cell ≡ self.now ++ half ∷ [])) }
+        ensures point { IfOk result (λ found. IsSome found → HasPoint (self.now ++ half ∷ [])) }
+    {
+        let Some(corners) = corners_with(alloc, &self.region, &self.corners, &half)? else {
+            return Ok(None);
+        };
+        let region = self.region.with(alloc, half)?;
+        Ok(inhabited(region, corners))
+    }
+
     // The corners, at most 84 of them.
     pub(crate) fn corners(&self) -> &[Corner]
         ensures { (sample : Point) × IsCell self.now result.now sample }
     {
         &self.corners
     }
+}
+
+// The cell of the region, whose corners these are. `None` exactly where it has no point.
+fn inhabited(region: Region, corners: Vec<Corner>) -> Option<Cell>
+    requires { AreCorners region corners.items }
+    ensures cell { MatchOption result (HasPoint region → ⊥) (λ cell. cell ≡ region) }
+    ensures point { IsSome result → HasPoint region }
+{
+    // A region has at most 80 halves, and its points are near.
+    let _ = region.len();
+    // Where some point is strictly inside an open edge, so is the sum of all corners.
+    let sample = sum(&corners);
+    if !is_inside(&region, &sample) {
+        return None;
+    }
+    Some(Cell {
+        region,
+        sample,
+        corners,
+    })
 }
 
 // Whether the corner is in the half.

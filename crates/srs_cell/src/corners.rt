@@ -8,7 +8,7 @@ ghost use Rattle.srs_cell.specs.Cutting.{IsKept, IsLeft};
 
 use crate::ends::{line_end, side};
 use srs_num::{Corner, Form, NoMemory, crossing_of};
-use srs_plane::Region;
+use srs_plane::{Half, Region};
 use std::alloc::Global;
 
 // What a form leaves of some corners.
@@ -148,4 +148,22 @@ pub(crate) fn corners_of(alloc: Global, region: &Region) -> Result<Option<Vec<Co
         }
     }
     Ok(Some(corners))
+}
+
+// The corners of the region with the half appended, from those of the region. `None`: all of these are beyond the half.
+pub(crate) fn corners_with(
+    alloc: Global,
+    region: &Region,
+    corners: &[Corner],
+    half: &Half,
+) -> Result<Option<Vec<Corner>>, NoMemory>
+    requires { AreCorners region.now corners.now }
+    ensures { IfOk result
+        (λ found. MatchOption found (IsBelow half.now.form corners.now) (λ more. AreCorners (region.now ++ half.now ∷ []) more.items)) }
+{
+    match clip_corners(alloc, region, region.len(), corners, &half.form)? {
+        Remains::Whole => Ok(Some(copied(alloc, corners)?)),
+        Remains::Nothing => Ok(None),
+        Remains::Part(part) => Ok(Some(part)),
+    }
 }

@@ -4,9 +4,11 @@
 mod bounds;
 mod cells;
 mod corners;
+mod divisions;
 mod ends;
 mod moves;
 
 pub use bounds::Bound;
 pub use cells::Cell;
+pub use divisions::Parts;
 pub use moves::Span;

@@ -59,4 +59,3 @@ module _ (R : Area) where
       ∙ ap₂ (λ (a n : ℕ). map (λ k. (v.z k).a) (range_with_len a n)) f g ∙ sym v.entries)
       (λ h. absurd (not_lower d c v u (sym e) h)))
       (λ h. absurd (not_earlier d c v u h))
-

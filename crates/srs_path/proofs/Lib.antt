@@ -1,4 +1,5 @@
 pub mod Padding
+pub mod Search
 pub mod Order
 pub mod Ranked
 pub mod WitnessLemmas

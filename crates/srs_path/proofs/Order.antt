@@ -1,5 +1,5 @@
 -- The order of pairs by a and then by b.
-use Rattle.std.proofs.Common.{◌≡◌, ℕ, zero, suc, ◌+◌, ◌<◌, ◌≤◌, List, length, ◌≤ℤ◌, ◌<ℤ◌, arith, get_or, add-one, subst}
+use Rattle.std.proofs.Common.{◌≡◌, ℕ, zero, suc, List, length, arith, get_or, add-one, subst}
 use Rattle.std.specs.Prelude.{AllPairs}
 use Rattle.std.specs.List.{AllAdjacentBelow}
 use Rattle.std.proofs.Math.Decide.{dec_lt}

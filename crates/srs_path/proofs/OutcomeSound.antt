@@ -1,16 +1,15 @@
 -- The listed ranks show that each point is finite, and a covering cycle that its pair recurs.
-use Rattle.std.proofs.Common.{◌≡◌, ◌≢◌, inl, inr, ℕ, zero, suc, ◌+◌, ◌≤◌, List, length, ℤ, pos, ap, ap₂, sym, ◌∙◌, arith, refl, add-zero, get_or}
+use Rattle.std.proofs.Common.{◌≡◌, ◌≢◌, inl, ℕ, zero, suc, ◌+◌, ◌≤◌, List, length, ℤ, pos, ap, ap₂, sym, ◌∙◌, arith, refl, add-zero, get_or}
 use Rattle.std.proofs.Math.Nat.{add-mod_left}
 use Rattle.srs_num.specs.declared.pairs.V2.{V2}
 use Rattle.srs_num.specs.Points.{Point}
 use Rattle.srs_map.specs.Step.{pair, origin, step_of, after}
 use Rattle.srs_map.specs.Finiteness.{IsFinite, Recurs}
-use Rattle.srs_map.specs.Links.{IsUnit, IsLink}
 use Rattle.srs_map.proofs.Brunotte.{brunotte}
 use Rattle.srs_map.proofs.Cycles.{after-add}
 use Rattle.srs_map.proofs.FormStep.{step_by_forms}
 use Rattle.srs_plane.specs.Regions.{Area, IsIn}
-use Rattle.srs_path.specs.Witnesses.{IsWitness, unit, link, HasEdge}
+use Rattle.srs_path.specs.Witnesses.{IsWitness, unit, link}
 use Rattle.srs_path.specs.Core.{IsRank, AreRanks}
 use Rattle.srs_path.specs.Cutout.{entry_at, Covers}
 
@@ -64,4 +63,3 @@ module _ (R : Area) (c : List ℤ) (covers : Covers R c) (r : Point) (i : IsIn R
     where
       around : (k : ℕ) → entry_at c (length c + k) ≡ entry_at c k
       around k = ap (λ (x : ℕ). get_or c x (pos 0)) (add-mod_left (length c) k)
-

@@ -1,8 +1,12 @@
 -- The sides of a path, and Ge up to 48.
-use Rattle.std.proofs.Common.{◌≡◌, ℕ, suc, ◌-◌, ◌≤◌, ◌<◌, ◌+◌, List, [], ◌∷◌, ◌++◌, length, take, sym, arith, ap, ◌∙◌, length-append, get_or, subst}
+use Rattle.std.proofs.Common.{◌≡◌, ℕ, suc, ◌-◌, ◌≤◌, ◌<◌, ◌+◌, List, [], ◌∷◌, ◌++◌, length, take, sym, arith, ap, ◌∙◌, length-append, get_or, subst, Bool, refl, ◌&&◌}
 use Rattle.std.proofs.Math.ListN.{replicate, set}
 use Rattle.std.proofs.Math.Seq.{set-append_seam, append_snoc, take-append_seam, take-suc}
 use Rattle.std.proofs.lemmas.List.{length-replicate, length-take-le}
+use Rattle.std.specs.Bool.{Decides, IsTrue, ◌==◌}
+use Rattle.std.proofs.lemmas.Slice.Eq.{slice_eq-Decides}
+use Rattle.std.proofs.lemmas.Bool.Decides.{Decides-eqb, Decides-and}
+use lib.Pointwise.{pointwise}
 use Rattle.srs_path.specs.declared.paths.Side.{Side}
 use Rattle.srs_path.specs.declared.paths.Side.TheVariants.{Ge}
 use Rattle.srs_path.specs.Paths.{padded, IsPadded}
@@ -42,7 +46,7 @@ pub one_more : (sides : List Side) (n : ℕ) (s : Side) → IsPadded sides n →
 one_more sides n s h l =
     let v = take n sides in
     let q : set sides n s ≡ padded (v ++ s ∷ []) =
-      ap (λ (x : List Side). set x n s) (sym h.rest) ∙ ap (λ (i : ℕ). set (padded v) i s) (sym h.count) ∙ set_more v s (47 - n) (omega (arith, h.count)) in
+    ap (λ (x : List Side). set x n s) (sym h.rest) ∙ ap (λ (i : ℕ). set (padded v) i s) (sym h.count) ∙ set_more v s (47 - n) (omega (arith, h.count)) in
     let m : length (v ++ s ∷ []) ≡ n + 1 = omega (arith, length-more v s, h.count) in
     record {
       is_padded = subst (λ (x : List Side). IsPadded x (n + 1)) (sym q) (subst (λ (i : ℕ). IsPadded (padded (v ++ s ∷ [])) i) m (is_padded (v ++ s ∷ []) (omega (arith, m))));
@@ -64,9 +68,19 @@ one_fewer sides n m h e =
     let l : length v ≡ m = length-take-le m sides (omega arith) in
     let w : take n sides ≡ v ++ s ∷ [] = ap (λ (i : ℕ). take i sides) e ∙ take-suc sides m Ge (omega arith) in
     let q : set sides m Ge ≡ padded v =
-      ap (λ (x : List Side). set x m Ge) (sym h.rest) ∙ ap (λ (x : List Side). set (padded x) m Ge) w ∙ ap (λ (i : ℕ). set (padded (v ++ s ∷ [])) i Ge) (sym l) ∙ set_fewer v s (47 - m) (omega arith) in
+    ap (λ (x : List Side). set x m Ge) (sym h.rest) ∙ ap (λ (x : List Side). set (padded x) m Ge) w ∙ ap (λ (i : ℕ). set (padded (v ++ s ∷ [])) i Ge) (sym l) ∙ set_fewer v s (47 - m) (omega arith) in
     record {
       is_padded = subst (λ (x : List Side). IsPadded x m) (sym q) (subst (λ (i : ℕ). IsPadded (padded v) i) l (is_padded v (omega arith)));
       last = s;
       view = w ∙ ap (λ (x : List Side). x ++ s ∷ []) (sym (ap (take m) q ∙ ap (λ (i : ℕ). take i (padded v)) (sym l) ∙ take-append_seam v (replicate (48 - length v) Ge)));
     }
+
+-- what `==` says of two paths
+pub same_paths : {E : Side → Side → Bool} → ((s t : Side) → Decides (E s t) (s ≡ t)) → (a b : List Side) (r : Bool)
+    → r ≡ (pointwise E (padded a) (padded b) && (length a == length b)) → (IsTrue r → a ≡ b) × (a ≡ b → IsTrue r)
+same_paths {E} same a b r e =
+    let d = Decides-and _ _ (slice_eq-Decides same (padded a) (padded b) (pointwise E (padded a) (padded b)) refl) (Decides-eqb (length a) (length b)) in
+    let back : (s : List Side) → take (length s) (padded s) ≡ s = λ s. take-append_seam s (replicate (48 - length s) Ge) in (
+      λ t. let w = d.0 (sym e ∙ t) in sym (back a) ∙ ap (take (length a)) w.0 ∙ ap (λ (n : ℕ). take n (padded b)) w.1 ∙ back b,
+      λ w. e ∙ d.1 (ap padded w, ap (length {A = Side}) w),
+    )

@@ -1,7 +1,7 @@
 -- Facts that can be built from, beside the negations.
-use Rattle.std.proofs.Common.{◌⊎◌, inl, inr, ℕ, ◌<◌, List, ℤ, pos, ◌≤ℤ◌, ◌<ℤ◌, arith, sym, length}
+use Rattle.std.proofs.Common.{◌⊎◌, inl, inr, ℕ, ◌<◌, List, ℤ, arith, sym, length}
 use Rattle.srs_num.specs.declared.pairs.V2.{V2}
-use Rattle.srs_num.specs.Points.{Point, value}
+use Rattle.srs_num.specs.Points.{Point}
 use Rattle.srs_num.proofs.Linear.{linear}
 use Rattle.srs_plane.specs.Regions.{Area, IsIn, Divides}
 use Rattle.srs_path.specs.Witnesses.{IsWitness, link, HasEdge, IsSmall, IsLarge, many, wide}

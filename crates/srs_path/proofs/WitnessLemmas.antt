@@ -1,6 +1,6 @@
 -- How a listing of the witnesses, and of their ranks, is used.
 use Rattle.std.proofs.Common.{◌≡◌, ◌≢◌, ℕ, zero, suc, ◌<◌, ◌≤◌, List, length, arith, refl, ap, ap₂, Bool, true, false, ◌&&◌, true≢false, le_trans, sym}
-use Rattle.std.specs.Prelude.{Contains, AllPairs}
+use Rattle.std.specs.Prelude.{Contains}
 use Rattle.std.specs.Bool.{Decides}
 use Rattle.std.specs.Ordering.{int_eq}
 use Rattle.std.specs.Cmp.{decided, signed_Decides}

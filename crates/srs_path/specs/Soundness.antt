@@ -1,5 +1,5 @@
 -- What each outcome claims of a region.
-use Rattle.std.specs.Prelude.{ℕ, List, length, ⊤}
+use Rattle.std.specs.Prelude.{ℕ, length, ⊤}
 use Rattle.srs_num.specs.Points.{Point}
 use Rattle.srs_map.specs.Step.{pair}
 use Rattle.srs_map.specs.Finiteness.{IsFinite, Recurs}

@@ -11,6 +11,8 @@ pub enum Side {
     Lt,
 }
 
+const MOST: u8 = 48;
+
 // Past the last of its sides a path has this one, so that equal paths are equal arrays.
 const PAD: Side = Side::Ge;
 
@@ -82,7 +84,7 @@ impl Path {
         ensures child { MatchOption result (length self.now ≡ 48) (λ p. p ≡ self.now ++ s ∷ []) }
         ensures room { IsSome result → length self.now < 48 }
     {
-        if self.len == 48 {
+        if self.len == MOST {
             return None;
         }
         let mut sides = self.sides;

@@ -1,5 +1,5 @@
 // The ranks of a cell's witnesses.
-ghost use Rattle.std.specs.Prelude.{◌≡◌, ◌↔◌, ◌<◌, pos, ◌≤ℤ◌, length, slice_get, Some, All, AllPairs, IsTrue, IfSome, IfNone, IfOk, IsSome};
+ghost use Rattle.std.specs.Prelude.{◌≡◌, ◌↔◌, ◌<◌, pos, ◌≤ℤ◌, length, slice_get, Some, All, AllPairs, IsTrue, IfSome, IfNone, IfOk, IsSome, MatchOption, Contains, ℕ};
 ghost use Rattle.srs_map.specs.Step.{IsNarrow};
 ghost use Rattle.srs_path.specs.Core.{Precedes};
 ghost use Rattle.srs_path.specs.Lists.{MakesRanks, ranked};
@@ -68,6 +68,23 @@ impl Ranks {
     {
         (*self.pairs.get(i as u64), *self.ranks.get(i as u64) as u32)
     }
+
+    /// The rank of the pair. `None` exactly where it isn't listed.
+    pub fn rank(&self, w: V2) -> Option<u32>
+        ensures some { IfSome result (λ n. Contains self.now (w, n)) }
+        ensures none { IfNone result ((n : ℕ) → Contains self.now (w, n) → ⊥) }
+    {
+        let place = place_of(self.pairs.as_slice(), &w)?;
+        Some(*self.ranks.get(place as u64) as u32)
+    }
+}
+
+// Where the pair stands among ascending ones.
+fn place_of(pairs: &[V2], w: &V2) -> Option<usize>
+    requires { AllPairs Precedes pairs.now }
+    ensures { MatchOption result (Contains pairs.now w.now → ⊥) (λ i. slice_get pairs.now i ≡ Some w.now) }
+{
+    pairs.binary_search(w).ok()
 }
 
 // The same pairs, in memory of their own.

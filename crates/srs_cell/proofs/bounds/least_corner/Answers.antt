@@ -11,14 +11,15 @@ loop-corner-preserved c =
     let old = c.loop-corner.invariant in
     let lt = c.loop-corner-test.true in
     elim c.if-is_lower.branch [
-      then-is_lower w ↦ rw w.least-is (
+      | then-is_lower w ↦ rw w.least-is (
         member f cs c.requires.sized i _ lt c.corner-item.is,
         least_moves f cs c.requires.sized i _ lt c.corner-item.is _ old.0 old.1 (c.is_lower.ensures.0 w.if-is_lower.true),
       )
-    | else-is_lower w ↦ rw w.least-is (
+      | else-is_lower w ↦ rw w.least-is (
         old.0,
         least_stays f cs c.requires.sized i _ lt c.corner-item.is _ old.1 (no_test _ c.is_lower.ensures.1 w.if-is_lower.false),
-      ) ]
+      )
+    ]
 
 pub returns : goal.returns
 returns c =

@@ -1,4 +1,3 @@
-use Rattle.std.proofs.Common.{List}
 use Rattle.std.specs.List.{AllAdjacentBelow}
 use Rattle.srs_path.specs.Core.{Precedes}
 use Rattle.srs_path.proofs.ranks.ascends.Given as goal

@@ -17,7 +17,7 @@ returns-clause-low c =
     let d : FitsSigned w128 c.parts-den.result.2 = depth_fits _ least c.parts-den.ensures.d sized in
     let inside = rw c.region.ensures.value at c.is_inside.ensures in
     simp to_z-of_z (low_is c.args.self.now _ cell.0 cell.1 c.args.f.now least corner _ c.least_sum-total.ensures
-      c.value_at.result c.parts-den.result.2 c.is_inside.result c.value_at.ensures.value c.parts-den.ensures.d inside.0 inside.1)
+    c.value_at.result c.parts-den.result.2 c.is_inside.result c.value_at.ensures.value c.parts-den.ensures.d inside.0 inside.1)
 
 pub returns-clause-sized : goal.returns-clause-sized
 returns-clause-sized c =

@@ -1,4 +1,4 @@
-use Rattle.std.proofs.Common.{◌≡◌, arith, ◌-◌, suc, sym, ◌∙◌}
+use Rattle.std.proofs.Common.{arith, ◌-◌, sym, ◌∙◌}
 use Rattle.srs_path.proofs.Padding.{one_fewer}
 use Rattle.srs_path.proofs.paths.Path.parent.Goals as goal
 

@@ -1,4 +1,4 @@
-use Rattle.std.proofs.Common.{arith, length, ◌<◌, ◌≡◌, w64, FitsSigned, pos, ◌≤ℤ◌}
+use Rattle.std.proofs.Common.{arith, length, ◌<◌, w64, FitsSigned, pos, ◌≤ℤ◌}
 use Rattle.std.proofs.lemmas.Int.{ints, to_z-of_z}
 use Rattle.srs_path.specs.Lists.{ranked}
 use Rattle.srs_path.proofs.Ranked.{length-ranked, get-ranked, rank_within}
