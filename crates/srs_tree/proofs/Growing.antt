@@ -1,19 +1,19 @@
 -- The spots of a tree after one outcome more.
-use Rattle.std.proofs.Common.{◌≡◌, ◌≢◌, ◌⊎◌, inl, inr, ℕ, zero, suc, ◌+◌, ◌≤◌, ◌<◌, Bool, true, false, cond, List, [], ◌∷◌, ◌++◌, map, length, length-append, length-set, get_or, slice_get, refl, sym, ap, ap₂, subst, ◌∙◌, arith, Some, None, append-nil, true≢false}
+use Rattle.std.proofs.Common.{◌≡◌, ◌≢◌, inl, inr, ℕ, zero, suc, ◌+◌, ◌≤◌, ◌<◌, Bool, true, false, cond, List, [], ◌∷◌, ◌++◌, length, length-append, length-set, get_or, slice_get, refl, sym, ap, ap₂, subst, ◌∙◌, arith, Some, None}
 use Rattle.std.specs.Prelude.{slice_set, is_some, Contains}
 use Rattle.std.specs.List.{AllPairs}
 use Rattle.std.specs.declared.option.Option.{Option}
 use Rattle.std.specs.FinMap as finite
 use Rattle.std.specs.Cmp.Lexicographic.{slice_cmp}
-use Rattle.std.proofs.lemmas.Option.{none-some, same_Some, slice_get_within, get_or_from_slice_get, slice_get-get_or}
+use Rattle.std.proofs.lemmas.Option.{none-some, same_Some, slice_get-get_or}
 use Rattle.std.proofs.lemmas.List.{length-map, map-append}
 use Rattle.srs_num.specs.Points.{LinearForm}
-use Rattle.srs_plane.specs.Regions.{Area, HasPoint}
+use Rattle.srs_plane.specs.Regions.{HasPoint}
 use Rattle.srs_path.specs.declared.paths.Side.{Side}
 use Rattle.srs_path.specs.declared.paths.Side.TheVariants.{Ge, Lt}
 use Rattle.srs_path.specs.declared.outcomes.Outcome.{Outcome}
 use Rattle.srs_path.specs.declared.outcomes.Outcome.TheVariants.{Inside, Outside, Cut, Left}
-use Rattle.srs_tree.specs.Tree.{Tree, path_eq, IsCellOf, half_on}
+use Rattle.srs_tree.specs.Tree.{path_eq, IsCellOf, half_on}
 use Rattle.srs_tree.specs.Rounds.{parts_by}
 use Rattle.srs_tree.specs.Growth.{IsProvedOf}
 use Rattle.srs_tree.specs.Snapshots.{side_cmp, Entries, with_entry}
@@ -24,7 +24,7 @@ use Rattle.srs_tree.proofs.CellsLemmas.{pairs_grow}
 use Rattle.srs_tree.proofs.StandsLemmas.{path_total, path_same, ties}
 use Rattle.srs_tree.proofs.Trees.{parent_cut}
 use Rattle.srs_tree.proofs.Places.{get_left, get_right, get_cases, get_set_same, get_set_other, map_set}
-use Rattle.srs_tree.proofs.Spots.{paths_of, path_at, here, tree-cons, tree_some, tree_there, tail_once, head_apart}
+use Rattle.srs_tree.proofs.Spots.{paths_of, path_at, here, tree-cons, tree_there, tail_once, head_apart}
 
 -- the spot x with the outcome o
 abbrev pub settled : List Spot → Spot → Outcome → Spot

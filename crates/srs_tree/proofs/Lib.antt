@@ -13,4 +13,5 @@ pub mod Descent
 pub mod Places
 pub mod Growing
 pub mod Regions
+pub mod Entering
 pub mod OnePlanLemmas

@@ -1,16 +1,15 @@
 -- The regions of spots, and what a version keeps.
-use Rattle.std.proofs.Common.{◌≡◌, ◌≢◌, inl, inr, ℕ, zero, suc, ◌+◌, ◌≤◌, List, [], ◌∷◌, ◌++◌, length, length-append, slice_get, refl, sym, ap, ap₂, subst, ◌∙◌, arith, Some, None, append-nil}
+use Rattle.std.proofs.Common.{◌≡◌, ◌≢◌, inl, inr, ℕ, zero, suc, ◌+◌, ◌≤◌, List, [], ◌∷◌, ◌++◌, length, length-append, slice_get, sym, ap, ap₂, subst, ◌∙◌, arith, Some, None, append-nil}
 use Rattle.std.specs.List.{AllPairs}
 use Rattle.std.specs.declared.option.Option.{Option}
 use Rattle.std.proofs.lemmas.Option.{none-some, same_Some}
-use Rattle.srs_num.specs.Points.{LinearForm}
 use Rattle.srs_plane.specs.Regions.{Area, HasPoint}
 use Rattle.srs_path.specs.declared.paths.Side.{Side}
 use Rattle.srs_path.specs.declared.outcomes.Outcome.{Outcome}
 use Rattle.srs_path.specs.declared.outcomes.Outcome.TheVariants.{Inside, Outside, Cut, Left}
 use Rattle.srs_path.specs.Views.{Found}
 use Rattle.srs_path.specs.Soundness.{IsSound}
-use Rattle.srs_tree.specs.Tree.{IsCellOf, IsPartOf, region_at, cut_half, half_on}
+use Rattle.srs_tree.specs.Tree.{IsCellOf, region_at, cut_half}
 use Rattle.srs_tree.specs.Growth.{IsProvedOf, IsVersion, IsOpenIn, MayEnter}
 use Rattle.srs_tree.specs.Nodes.{Spot, root_of, snapshot_of, spots_tree, part_place, AreSpots}
 use Rattle.srs_tree.proofs.HistoryLemmas.{region_at-snoc}
@@ -39,7 +38,7 @@ module _ (xs : List Spot) (tree : AreSpots xs) where
   region_by (suc n) i x l e (inr c) =
       let p = tree_some xs c.parent (Cut c.form) c.cut in
       let up : p.spot.region ≡ region_at (root_of xs) (spots_tree xs) p.spot.path
-        = region_by n p.place p.spot (omega (arith, ap length c.is, length-append c.parent (c.side ∷ []), ap length p.path)) p.is (tree.each p.place p.spot p.is).cell in
+      = region_by n p.place p.spot (omega (arith, ap length c.is, length-append c.parent (c.side ∷ []), ap length p.path)) p.is (tree.each p.place p.spot p.is).cell in
       let t = (tree.each p.place p.spot p.is).parts c.form p.outcome c.side in
       let same : t.spot ≡ x = same_spot xs tree.once (part_place p.spot.parts c.side) i t.spot x t.is e (t.path ∙ ap (λ (q : List Side). q ++ c.side ∷ []) p.path ∙ sym c.is) in
       ap (λ (u : Spot). u.region) (sym same) ∙ t.region

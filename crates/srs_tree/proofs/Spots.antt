@@ -1,18 +1,16 @@
 -- What the spots of a tree say of it.
-use Rattle.std.proofs.Common.{◌≡◌, ◌≢◌, ◌⊎◌, inl, inr, ℕ, zero, suc, ◌+◌, ◌≤◌, ◌<◌, Bool, true, false, cond, List, [], ◌∷◌, ◌++◌, map, length, get_or, slice_get, refl, sym, ap, ap₂, subst, ◌∙◌, arith, Some, None}
+use Rattle.std.proofs.Common.{◌≡◌, ◌≢◌, ℕ, zero, suc, ◌<◌, Bool, true, false, cond, List, [], ◌∷◌, map, length, get_or, slice_get, refl, sym, ap, subst, ◌∙◌, arith, Some, None}
 use Rattle.std.specs.List.{AllPairs}
 use Rattle.std.specs.declared.option.Option.{Option}
 use Rattle.std.specs.FinMap as finite
 use Rattle.std.specs.Cmp.Lexicographic.{slice_cmp}
-use Rattle.std.proofs.lemmas.Option.{none-some, same_Some, slice_get_within, get_or_from_slice_get}
+use Rattle.std.proofs.lemmas.Option.{none-some, same_Some, slice_get_within}
 use Rattle.std.proofs.lemmas.List.{length-map}
-use Rattle.srs_num.specs.Points.{LinearForm}
 use Rattle.srs_path.specs.declared.paths.Side.{Side}
 use Rattle.srs_path.specs.declared.outcomes.Outcome.{Outcome}
-use Rattle.srs_path.specs.declared.outcomes.Outcome.TheVariants.{Cut}
-use Rattle.srs_tree.specs.Tree.{path_eq, IsCellOf}
+use Rattle.srs_tree.specs.Tree.{path_eq}
 use Rattle.srs_tree.specs.Snapshots.{side_cmp}
-use Rattle.srs_tree.specs.Nodes.{Spot, entered, entries_of, spots_tree, AreSpots, IsSpotOf}
+use Rattle.srs_tree.specs.Nodes.{Spot, entered, entries_of, spots_tree}
 use Rattle.srs_tree.proofs.HistoryLemmas.{same_path, path_eq_same, or_else}
 use Rattle.srs_tree.proofs.StandsLemmas.{path_total, ties}
 
@@ -87,8 +85,8 @@ tree_there [] once i x e = absurd (none-some x e)
 tree_there (y ∷ xs) once zero x e =
     let same : y ≡ x = same_Some y x e in
     subst (λ (z : Spot). spots_tree (y ∷ xs) z.path ≡ z.outcome) same
-      (tree-cons y xs y.path ∙ ap (λ (b : Bool). or_else (cond b y.outcome None) (spots_tree xs y.path)) (path_eq_same y.path)
-        ∙ ap (or_else y.outcome) (tree_none xs y.path (λ i x e q. head_apart y xs once i x e (sym q))) ∙ or_none y.outcome)
+    (tree-cons y xs y.path ∙ ap (λ (b : Bool). or_else (cond b y.outcome None) (spots_tree xs y.path)) (path_eq_same y.path)
+    ∙ ap (or_else y.outcome) (tree_none xs y.path (λ i x e q. head_apart y xs once i x e (sym q))) ∙ or_none y.outcome)
   where
     or_none : (w : Option Outcome) → or_else w None ≡ w
     or_none None = refl

@@ -102,7 +102,7 @@ Stands-append R0 H v e old fresh = record { region = old.region; entries = entri
     count : map.len (map.insert v.entries e.path e.outcome) ≡ length (H ++ e ∷ [])
     count =
         let a : map.len (map.insert v.entries e.path e.outcome) ≡ map.len v.entries + 1 =
-          map.len-insert path_total v.entries e.path e.outcome ∙ ap (λ (x : Option Outcome). cond (is_some x) (map.len v.entries) (map.len v.entries + 1)) (old.entries e.path ∙ fresh) in
+        map.len-insert path_total v.entries e.path e.outcome ∙ ap (λ (x : Option Outcome). cond (is_some x) (map.len v.entries) (map.len v.entries + 1)) (old.entries e.path ∙ fresh) in
         let b = old.count in
         omega (arith, a, b, length-append H (e ∷ []))
 
@@ -120,5 +120,5 @@ record Standing (R0 : Area) (H : History) : Type 0 where
 pub Stands-some : (R0 : Area) (W : ℕ) (H : History) → IsLegal R0 W H → (v : Snapshot) × StandsFor R0 H v
 Stands-some R0 W H legal =
     let s : Standing R0 H = grow (MayFollow R0 W) (Standing R0) (record { v = record { region = R0; entries = map.empty }; stands = Stands-empty R0 })
-      (λ G e old may. record { v = record { region = old.v.region; entries = map.insert old.v.entries e.path e.outcome }; stands = Stands-append R0 G old.v e old.stands may.fresh }) H legal in
+    (λ G e old may. record { v = record { region = old.v.region; entries = map.insert old.v.entries e.path e.outcome }; stands = Stands-append R0 G old.v e old.stands may.fresh }) H legal in
     (s.v, s.stands)

@@ -1,12 +1,10 @@
 -- Paths in a tree whose entries stand at cells.
-use Rattle.std.proofs.Common.{◌≡◌, ◌⊎◌, inl, inr, ℕ, zero, suc, ◌≤◌, ◌<◌, List, [], ◌∷◌, ◌++◌, length, length-append, refl, sym, ap, subst, ◌∙◌, arith, append_assoc, append-nil, Some, None}
-use Rattle.std.specs.declared.option.Option.{Option}
-use Rattle.std.proofs.lemmas.Option.{none-some}
+use Rattle.std.proofs.Common.{◌≡◌, ◌⊎◌, inl, inr, ℕ, zero, suc, ◌≤◌, ◌<◌, List, [], ◌∷◌, ◌++◌, length, length-append, refl, sym, ap, subst, ◌∙◌, arith, append_assoc, append-nil, Some}
 use Rattle.srs_num.specs.Points.{LinearForm}
 use Rattle.srs_path.specs.declared.paths.Side.{Side}
 use Rattle.srs_path.specs.declared.outcomes.Outcome.{Outcome}
 use Rattle.srs_path.specs.declared.outcomes.Outcome.TheVariants.{Cut}
-use Rattle.srs_tree.specs.Tree.{Tree, IsCellOf, IsPartOf}
+use Rattle.srs_tree.specs.Tree.{Tree, IsCellOf}
 use Rattle.srs_tree.specs.Growth.{IsLongestCell}
 use Rattle.srs_tree.proofs.TreeCut.{same_parent}
 
@@ -34,9 +32,9 @@ module _ (T : Tree) (closed : IsClosed T) where
   prefix_by (suc n) p q l c = elim (front_last q) [
     | inl e ↦ subst (IsCellOf T) (ap (λ (u : List Side). p ++ u) e ∙ append-nil p) c
     | inr t ↦
-      let part : IsCellOf T ((p ++ t.0) ++ t.1 ∷ []) = subst (IsCellOf T) (ap (λ (u : List Side). p ++ u) t.2 ∙ sym (append_assoc p t.0 (t.1 ∷ []))) c in
-      let cut = parent_cut T (p ++ t.0) t.1 part in
-      prefix_by n p t.0 (omega (arith, ap length t.2, length-append t.0 (t.1 ∷ []))) (closed (p ++ t.0) (Cut cut.0) cut.1)
+        let part : IsCellOf T ((p ++ t.0) ++ t.1 ∷ []) = subst (IsCellOf T) (ap (λ (u : List Side). p ++ u) t.2 ∙ sym (append_assoc p t.0 (t.1 ∷ []))) c in
+        let cut = parent_cut T (p ++ t.0) t.1 part in
+        prefix_by n p t.0 (omega (arith, ap length t.2, length-append t.0 (t.1 ∷ []))) (closed (p ++ t.0) (Cut cut.0) cut.1)
   ]
 
   -- a prefix of a cell is a cell

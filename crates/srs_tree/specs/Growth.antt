@@ -1,8 +1,7 @@
 -- When a version takes one entry more, and why not.
 use Rattle.std.specs.Prelude.{◌≡◌, ◌≢◌, ◌<◌, ◌≤◌, ◌++◌, ⊤, List, length, Some, None}
 use Rattle.std.specs.Arc.{arc_value}
-use Rattle.srs_num.specs.Points.{LinearForm}
-use Rattle.srs_plane.specs.Regions.{Area, HasPoint, Divides}
+use Rattle.srs_plane.specs.Regions.{Area, HasPoint}
 use Rattle.srs_path.specs.declared.paths.Side.{Side}
 use Rattle.srs_path.specs.declared.outcomes.Outcome.{Outcome}
 use Rattle.srs_path.specs.declared.outcomes.Outcome.TheVariants.{Inside, Outside, Cut, Left}
@@ -59,3 +58,17 @@ IsTreeErr v path f (Done o) = IsCellOf (tree_of v) path × (tree_of v path ≡ S
 IsTreeErr v path f (OtherCell c) =
     IsOpenIn (tree_of v) path × (arc_value c ≡ region_at v.region (tree_of v) path) × (f.region ≢ arc_value c)
 IsTreeErr v path f (NoMemory g) = g ≡ f
+
+-- the refusal says that the cell has the outcome o; or want of memory, with the finding
+abbrev pub SaysDone : Outcome → Found → TreeErr → Type 0
+SaysDone o f (NotThere p) = ⊥
+SaysDone o f (Done given) = arc_value given ≡ o
+SaysDone o f (OtherCell c) = ⊥
+SaysDone o f (NoMemory g) = g ≡ f
+
+-- the refusal says that the cell has the region R; or want of memory, with the finding
+abbrev pub SaysOther : Area → Found → TreeErr → Type 0
+SaysOther R f (NotThere p) = ⊥
+SaysOther R f (Done given) = ⊥
+SaysOther R f (OtherCell c) = arc_value c ≡ R
+SaysOther R f (NoMemory g) = g ≡ f

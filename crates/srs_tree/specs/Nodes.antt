@@ -1,5 +1,5 @@
 -- What a version keeps of its tree: one spot for each cell, in the order in which the cells were made.
-use Rattle.std.specs.Prelude.{◌≡◌, ◌≢◌, ℕ, ◌+◌, ◌≤◌, List, [], ◌∷◌, ◌++◌, AllPairs, length, map, slice_get, slice_set, Some, None}
+use Rattle.std.specs.Prelude.{◌≡◌, ◌≢◌, ℕ, ◌+◌, ◌<◌, ◌≤◌, List, [], ◌∷◌, ◌++◌, AllPairs, length, map, slice_get, slice_set, Some, None}
 use Rattle.std.specs.declared.option.Option.{Option}
 use Rattle.std.specs.FinMap as finite
 use Rattle.srs_num.specs.Points.{LinearForm}
@@ -8,9 +8,10 @@ use Rattle.srs_path.specs.declared.paths.Side.{Side}
 use Rattle.srs_path.specs.declared.paths.Side.TheVariants.{Ge, Lt}
 use Rattle.srs_path.specs.declared.outcomes.Outcome.{Outcome}
 use Rattle.srs_path.specs.declared.outcomes.Outcome.TheVariants.{Inside, Outside, Cut, Left}
+use Rattle.srs_path.specs.Views.{Found}
 use Rattle.srs_tree.specs.Tree.{Tree, IsCellOf, half_on}
-use Rattle.srs_tree.specs.Snapshots.{Entries, Snapshot, tree_of}
-use Rattle.srs_tree.specs.Growth.{IsProvedOf}
+use Rattle.srs_tree.specs.Snapshots.{Entries, Snapshot, tree_of, with_entry}
+use Rattle.srs_tree.specs.Growth.{IsProvedOf, IsShortCut, MayEnter}
 
 -- a cell's path, its region, its outcome if it has one, and for a cut the place of its Ge part, after which the Lt part stands
 pub record Spot : Type 0 where
@@ -89,3 +90,45 @@ pub record IsPlaceOf (xs : List Spot) (p : List Side) (i : ℕ) : Type 0 where
   pub spot : Spot
   pub is : slice_get xs i ≡ Some spot
   pub path : spot.path ≡ p
+
+-- two spots or none, as a list
+abbrev pub spots_from : Option (Spot × Spot) → List Spot
+spots_from None = []
+spots_from (Some p) = p.0 ∷ p.1 ∷ []
+
+-- an outcome may come to the spot x: it has none, the outcome is proved of its region, and the paths and the halves of
+-- its parts aren't too many
+pub record MaySettle (x : Spot) (o : Outcome) : Type 0 where
+  pub fresh : x.outcome ≡ None
+  pub proved : IsProvedOf x.region o
+  pub room : IsShortCut x.path o
+  pub few : length x.region < 80
+
+-- the finding may come to the spot x: it has no outcome and the finding's region, and the paths and the halves of its
+-- parts aren't too many
+pub record IsReadyFor (x : Spot) (f : Found) : Type 0 where
+  pub fresh : x.outcome ≡ None
+  pub same : x.region ≡ f.region
+  pub room : IsShortCut x.path f.outcome
+  pub few : length x.region < 80
+
+-- the spot at the place i is an open cell at the path p with this region
+pub record IsOpenAt (xs : List Spot) (p : List Side) (R : Area) (i : ℕ) : Type 0 where
+  pub spot : Spot
+  pub is : slice_get xs i ≡ Some spot
+  pub at_path : spot.path ≡ p
+  pub fresh : spot.outcome ≡ None
+  pub region : spot.region ≡ R
+
+-- the spots of a tree, and how many of them have an outcome
+pub record IsCounted (xs : List Spot) (n : ℕ) : Type 0 where
+  pub spots : AreSpots xs
+  pub count : n ≡ finite.len (entries_of xs)
+
+-- the spots ys are those of xs after the finding came to the path
+pub record HasGrown (xs ys : List Spot) (p : List Side) (f : Found) : Type 0 where
+  pub may : MayEnter (snapshot_of xs) p f
+  pub spots : AreSpots ys
+  pub snapshot : snapshot_of ys ≡ with_entry (snapshot_of xs) p f.outcome
+  pub count : finite.len (entries_of ys) ≡ finite.len (entries_of xs) + 1
+  pub few : finite.len (entries_of xs) < length xs

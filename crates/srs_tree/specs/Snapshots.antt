@@ -1,5 +1,5 @@
 -- What a version is seen as, and which histories it stands for. This file names no version.
-use Rattle.std.specs.Prelude.{◌≡◌, ℕ, List, length, refl, Some}
+use Rattle.std.specs.Prelude.{◌≡◌, ℕ, List, [], ◌∷◌, ◌++◌, length, refl, None}
 use Rattle.std.specs.Coded.{Coded, code_by, coded×, coded_list}
 use Rattle.std.specs.FinMap as map
 use Rattle.std.specs.FinMap.{FinMap}
@@ -7,13 +7,13 @@ use Rattle.std.specs.declared.cmp.Ordering.{Ordering}
 use Rattle.std.specs.declared.cmp.Ordering.TheVariants.{Less, Equal, Greater}
 use Rattle.std.specs.Cmp.Lexicographic.{slice_cmp}
 use Rattle.srs_plane.specs.contracts.halves.Half as half
-use Rattle.srs_plane.specs.declared.halves.Half.{Half}
 use Rattle.srs_plane.specs.Regions.{Area}
 use Rattle.srs_path.specs.contracts.paths.Side as side
 use Rattle.srs_path.specs.contracts.outcomes.Outcome as outcome
 use Rattle.srs_path.specs.declared.paths.Side.{Side}
 use Rattle.srs_path.specs.declared.paths.Side.TheVariants.{Ge, Lt}
 use Rattle.srs_path.specs.declared.outcomes.Outcome.{Outcome}
+use Rattle.srs_path.specs.Views.{Entry}
 use Rattle.srs_tree.specs.Tree.{History, Tree, outcome_at}
 use Rattle.srs_tree.specs.Legality.{IsLegal}
 
@@ -59,3 +59,9 @@ abbrev pub SnapshotsStand : Type 0
 SnapshotsStand =
     (R0 : Area) (W : ℕ) (H : History) → IsLegal R0 W H
     → (v : Snapshot) × StandsFor R0 H v × ((w : Snapshot) → StandsFor R0 H w → w ≡ v)
+
+-- the statement that the snapshot with one entry more stands for the history with one event more
+abbrev pub SnapshotsGrow : Type 0
+SnapshotsGrow =
+    (R0 : Area) (H : History) (v : Snapshot) (e : Entry) → StandsFor R0 H v → outcome_at H e.path ≡ None
+    → StandsFor R0 (H ++ e ∷ []) (with_entry v e.path e.outcome)

@@ -1,6 +1,7 @@
 //! The tree of a history: its cells, when a history is legal, and plans; and versions of a tree.
 #![tactic(auto)]
 
+mod growth;
 mod laws;
 mod nodes;
 mod refusals;

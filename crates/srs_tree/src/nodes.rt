@@ -1,5 +1,5 @@
 // The cells of a tree in the order in which they were made.
-ghost use Rattle.std.specs.Prelude.{◌≡◌, ◌+◌, ◌<◌, ◌^◌, Some, None, IfOk, IfErr, IfSome, IfNone, MatchOption, OnErr};
+ghost use Rattle.std.specs.Prelude.{◌≡◌, length, ◌+◌, ◌<◌, ◌^◌, Some, None, IfOk, IfErr, IfSome, IfNone, MatchOption, OnErr};
 ghost use Rattle.srs_num.specs.Points.{LinearForm};
 ghost use Rattle.srs_path.specs.declared.outcomes.Outcome.TheVariants.{Cut as IsCut};
 ghost use Rattle.srs_tree.specs.Nodes.{Spot, AreSpots, IsPlaceOf, part_place, spots_tree};
@@ -63,6 +63,14 @@ impl Node {
         self.outcome.as_ref()
     }
 
+    // The outcome comes to the cell; its parts, if it has any, stand from the place `parts` on.
+    pub(crate) fn settle(&mut self, outcome: Arc<Outcome>, parts: usize)
+        ensures { self.new ≡ record { path = self.old.path; region = self.old.region; outcome = Some outcome.value; parts = parts } }
+    {
+        self.outcome = Some(outcome);
+        self.parts = parts;
+    }
+
     // The place of the part on the side `s` of the cut, if there is one.
     fn part(&self, s: Side) -> Option<usize>
         requires { (h : LinearForm) → self.now.outcome ≡ Some (IsCut h) → self.now.parts + 1 < 2 ^ 64 }
@@ -108,6 +116,7 @@ pub(crate) fn shared<T>(value: &Arc<T>) -> Result<Arc<T>, NoMemory>
 pub(crate) fn find(nodes: &[Node], path: &Path) -> Result<usize, Path>
     requires { AreSpots nodes.now }
     ensures found { IfOk result (λ i. IsPlaceOf nodes.now path.now i) }
+    ensures within { IfOk result (λ i. i < length nodes.now) }
     ensures not_there { IfErr result (λ p. IsLongestCell (spots_tree nodes.now) path.now p) }
     ensures no_cell { OnErr result (IsCellOf (spots_tree nodes.now) path.now → ⊥) }
 {
@@ -120,6 +129,20 @@ pub(crate) fn find(nodes: &[Node], path: &Path) -> Result<usize, Path>
         }
     }
     Ok(at)
+}
+
+// The outcome at the path, if it has one.
+pub(crate) fn outcome_at<'a>(nodes: &'a [Node], path: &Path) -> Option<&'a Outcome>
+    requires { AreSpots nodes.now }
+    ensures { MatchOption result (spots_tree nodes.now path.now ≡ None) (λ o. spots_tree nodes.now path.now ≡ Some o.now) }
+{
+    let Ok(i) = find(nodes, path) else {
+        return None;
+    };
+    match nodes[i].outcome() {
+        Some(outcome) => Some(outcome),
+        None => None,
+    }
 }
 
 // The same cells, shared.
