@@ -14,4 +14,6 @@ pub mod Places
 pub mod Growing
 pub mod Regions
 pub mod Entering
+pub mod Sorted
+pub mod Below
 pub mod OnePlanLemmas

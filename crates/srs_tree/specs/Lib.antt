@@ -4,3 +4,4 @@ pub mod Rounds
 pub mod Snapshots
 pub mod Growth
 pub mod Nodes
+pub mod Preorder

@@ -2,11 +2,14 @@
 #![tactic(auto)]
 
 mod growth;
+mod journals;
 mod laws;
 mod nodes;
 mod refusals;
 mod versions;
+mod walks;
 
+pub use journals::Journal;
 pub use laws::histories;
 pub use refusals::TreeErr;
 pub use versions::Version;

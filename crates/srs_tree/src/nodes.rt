@@ -72,7 +72,7 @@ impl Node {
     }
 
     // The place of the part on the side `s` of the cut, if there is one.
-    fn part(&self, s: Side) -> Option<usize>
+    pub(crate) fn part(&self, s: Side) -> Option<usize>
         requires { (h : LinearForm) → self.now.outcome ≡ Some (IsCut h) → self.now.parts + 1 < 2 ^ 64 }
         ensures none { IfNone result ((h : LinearForm) → self.now.outcome ≡ Some (IsCut h) → ⊥) }
         ensures some { IfSome result (λ i. (i ≡ part_place self.now.parts s) × ((h : LinearForm) × (self.now.outcome ≡ Some (IsCut h)))) }

@@ -2,11 +2,13 @@
 ghost use Rattle.std.specs.Prelude.{◌≡◌, ◌≤◌, length, None, Some, IfOk, IfErr, OnOk, OnErr, MatchOption};
 ghost use Rattle.std.specs.FinMap as map;
 ghost use Rattle.srs_tree.specs.Snapshots.{tree_of, with_entry};
+ghost use Rattle.srs_tree.specs.Preorder.{preorder_of};
 ghost use Rattle.srs_tree.specs.Growth.{IsVersion, IsShortCut, MayEnter, IsTreeErr};
 
-use crate::TreeErr;
 use crate::growth::{add_to, place_for};
 use crate::nodes::{Node, copied, outcome_at};
+use crate::walks::walk;
+use crate::{Journal, TreeErr};
 use srs_cell::Cell;
 use srs_num::NoMemory;
 use srs_path::{Finding, Outcome, Path};
@@ -77,6 +79,15 @@ impl Version {
             nodes: copied(alloc, &self.nodes)?,
             count: self.count,
         })
+    }
+
+    /// The outcomes as events in preorder: a cell's, then those below its Ge part, then those below its Lt part.
+    pub fn preorder(&self, alloc: Global) -> Result<Journal, NoMemory>
+        ensures { IfOk result (λ events. events ≡ preorder_of self.now) }
+    {
+        let mut events = Journal::new(alloc);
+        walk(&self.nodes, 0, &mut events)?;
+        Ok(events)
     }
 
     /// The outcome of the finding is entered at the path; a cut's path is shorter than 48. An `Err` leaves the version as it
