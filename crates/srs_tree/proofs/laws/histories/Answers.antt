@@ -1,0 +1,18 @@
+-- The laws of histories, by induction over their events.
+use Rattle.std.proofs.Common.{refl}
+use Rattle.srs_tree.proofs.OnePlanLemmas.{one_plan}
+use Rattle.srs_tree.proofs.PartitionAll.{IsPartition-legal}
+use Rattle.srs_tree.proofs.PlannedWhole.{IsWhole-planned, IsInRounds-planned}
+use Rattle.srs_tree.proofs.StandsLemmas.{Stands-some, Stands-once, Stands-append}
+use Rattle.srs_tree.proofs.laws.histories.Goals as goal
+
+pub returns : goal.returns
+returns c = record {
+  partition = IsPartition-legal;
+  one_plan = one_plan;
+  stands = λ R0 W H legal.
+      let t = Stands-some R0 W H legal in
+      (t.0, t.1, λ w s. Stands-once R0 H H w t.0 s t.1 (λ p. refl));
+  grows = Stands-append;
+  whole = λ R0 L H planned each. (IsWhole-planned R0 L H planned each, IsInRounds-planned R0 L H planned);
+}

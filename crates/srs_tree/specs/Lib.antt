@@ -1,0 +1,7 @@
+pub mod Tree
+pub mod Legality
+pub mod Rounds
+pub mod Snapshots
+pub mod Growth
+pub mod Nodes
+pub mod Preorder

@@ -1,0 +1,15 @@
+//! The tree of a history: its cells, when a history is legal, and plans; and versions of a tree.
+#![tactic(auto)]
+
+mod growth;
+mod journals;
+mod laws;
+mod nodes;
+mod refusals;
+mod versions;
+mod walks;
+
+pub use journals::Journal;
+pub use laws::histories;
+pub use refusals::TreeErr;
+pub use versions::Version;

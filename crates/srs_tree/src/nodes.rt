@@ -1,0 +1,159 @@
+// The cells of a tree in the order in which they were made.
+ghost use Rattle.std.specs.Prelude.{◌≡◌, length, ◌+◌, ◌<◌, ◌^◌, Some, None, IfOk, IfErr, IfSome, IfNone, MatchOption, OnErr};
+ghost use Rattle.srs_num.specs.Points.{LinearForm};
+ghost use Rattle.srs_path.specs.declared.outcomes.Outcome.TheVariants.{Cut as IsCut};
+ghost use Rattle.srs_tree.specs.Nodes.{Spot, AreSpots, IsPlaceOf, part_place, spots_tree};
+ghost use Rattle.srs_tree.specs.Growth.{IsLongestCell};
+ghost use Rattle.srs_tree.specs.Tree.{IsCellOf};
+
+use srs_cell::Cell;
+use srs_num::NoMemory;
+use srs_path::{Outcome, Path, Side};
+use std::alloc::Global;
+use std::marker::Model;
+use std::sync::Arc;
+
+// A cell of the tree. Where its outcome is a cut, the Ge part stands at the place `parts`, and the Lt part after it.
+#[derive(Drop)]
+pub(crate) struct Node {
+    path: Path,
+    cell: Arc<Cell>,
+    outcome: Option<Arc<Outcome>>,
+    parts: usize,
+}
+
+impl Model for Node {
+    ghost use Rattle.std.specs.Option.{option_map};
+    ghost use Rattle.std.specs.Arc.{arc_value};
+    ghost use Rattle.srs_tree.specs.Nodes.{Spot};
+
+    ghost Value = { Spot };
+
+    ghost view = { λ n. record { path = n.path; region = arc_value n.cell; outcome = option_map arc_value n.outcome; parts = n.parts } };
+}
+
+impl Node {
+    // The cell without an outcome.
+    pub(crate) fn open(path: Path, cell: Arc<Cell>) -> Node
+        ensures { result ≡ record { path = path; region = cell.value; outcome = None; parts = 0 } }
+    {
+        Node {
+            path,
+            cell,
+            outcome: None,
+            parts: 0,
+        }
+    }
+
+    pub(crate) fn path(&self) -> Path
+        ensures { result ≡ self.now.path }
+    {
+        self.path
+    }
+
+    pub(crate) fn cell(&self) -> &Arc<Cell>
+        ensures { result.now.value ≡ self.now.region }
+    {
+        &self.cell
+    }
+
+    pub(crate) fn outcome(&self) -> Option<&Arc<Outcome>>
+        ensures { MatchOption result (self.now.outcome ≡ None) (λ o. self.now.outcome ≡ Some o.now.value) }
+    {
+        self.outcome.as_ref()
+    }
+
+    // The outcome comes to the cell; its parts, if it has any, stand from the place `parts` on.
+    pub(crate) fn settle(&mut self, outcome: Arc<Outcome>, parts: usize)
+        ensures { self.new ≡ record { path = self.old.path; region = self.old.region; outcome = Some outcome.value; parts = parts } }
+    {
+        self.outcome = Some(outcome);
+        self.parts = parts;
+    }
+
+    // The place of the part on the side `s` of the cut, if there is one.
+    pub(crate) fn part(&self, s: Side) -> Option<usize>
+        requires { (h : LinearForm) → self.now.outcome ≡ Some (IsCut h) → self.now.parts + 1 < 2 ^ 64 }
+        ensures none { IfNone result ((h : LinearForm) → self.now.outcome ≡ Some (IsCut h) → ⊥) }
+        ensures some { IfSome result (λ i. (i ≡ part_place self.now.parts s) × ((h : LinearForm) × (self.now.outcome ≡ Some (IsCut h)))) }
+    {
+        match (self.outcome()?).as_ref() {
+            Outcome::Cut(_) => Some(match s {
+                Side::Ge => self.parts,
+                Side::Lt => self.parts + 1,
+            }),
+            _ => None,
+        }
+    }
+
+    // The same cell, shared.
+    fn share(&self) -> Result<Node, NoMemory>
+        ensures { IfOk result (λ node. node ≡ self.now) }
+    {
+        Ok(Node {
+            path: self.path,
+            cell: shared(&self.cell)?,
+            outcome: match &self.outcome {
+                Some(outcome) => Some(shared(outcome)?),
+                None => None,
+            },
+            parts: self.parts,
+        })
+    }
+}
+
+// One owner more.
+pub(crate) fn shared<T>(value: &Arc<T>) -> Result<Arc<T>, NoMemory>
+    ensures { IfOk result (λ copy. copy.value ≡ value.now.value) }
+{
+    match Arc::try_clone(value) {
+        Ok(copy) => Ok(copy),
+        Err(_) => Err(NoMemory),
+    }
+}
+
+// The place of the cell at the path, or else the longest beginning of the path that is a cell.
+pub(crate) fn find(nodes: &[Node], path: &Path) -> Result<usize, Path>
+    requires { AreSpots nodes.now }
+    ensures found { IfOk result (λ i. IsPlaceOf nodes.now path.now i) }
+    ensures within { IfOk result (λ i. i < length nodes.now) }
+    ensures not_there { IfErr result (λ p. IsLongestCell (spots_tree nodes.now) path.now p) }
+    ensures no_cell { OnErr result (IsCellOf (spots_tree nodes.now) path.now → ⊥) }
+{
+    let mut at = 0;
+    for i in 0..path.len() {
+        let node = &nodes[at];
+        match node.part(path.side(i)) {
+            Some(place) => at = place,
+            None => return Err(node.path()),
+        }
+    }
+    Ok(at)
+}
+
+// The outcome at the path, if it has one.
+pub(crate) fn outcome_at<'a>(nodes: &'a [Node], path: &Path) -> Option<&'a Outcome>
+    requires { AreSpots nodes.now }
+    ensures { MatchOption result (spots_tree nodes.now path.now ≡ None) (λ o. spots_tree nodes.now path.now ≡ Some o.now) }
+{
+    let Ok(i) = find(nodes, path) else {
+        return None;
+    };
+    match nodes[i].outcome() {
+        Some(outcome) => Some(outcome),
+        None => None,
+    }
+}
+
+// The same cells, shared.
+pub(crate) fn copied(alloc: Global, nodes: &[Node]) -> Result<Vec<Node>, NoMemory>
+    ensures { IfOk result (λ copy. copy.items ≡ nodes.now) }
+{
+    let mut copy = Vec::new(alloc);
+    for node in nodes {
+        if copy.push(node.share()?).is_err() {
+            return Err(NoMemory);
+        }
+    }
+    Ok(copy)
+}

@@ -1,0 +1,126 @@
+// Versions of a tree.
+ghost use Rattle.std.specs.Prelude.{◌≡◌, ◌≤◌, length, None, Some, IfOk, IfErr, OnOk, OnErr, MatchOption};
+ghost use Rattle.std.specs.FinMap as map;
+ghost use Rattle.srs_tree.specs.Snapshots.{tree_of, with_entry};
+ghost use Rattle.srs_tree.specs.Preorder.{preorder_of};
+ghost use Rattle.srs_tree.specs.Growth.{IsVersion, IsShortCut, MayEnter, IsTreeErr};
+
+use crate::growth::{add_to, place_for};
+use crate::nodes::{Node, copied, outcome_at};
+use crate::walks::walk;
+use crate::{Journal, TreeErr};
+use srs_cell::Cell;
+use srs_num::NoMemory;
+use srs_path::{Finding, Outcome, Path};
+use std::alloc::Global;
+use std::marker::Model;
+use std::sync::Arc;
+
+/// A region of at most 16 halves, and the outcomes that were found of the cells of its tree. Each path with an outcome is
+/// the root, or its parent has a cut; and each outcome that is inside, outside or a cut is sound on its cell.
+#[derive(Drop)]
+pub struct Version {
+    nodes: Vec<Node>,
+    count: u64,
+}
+
+impl Model for Version {
+    ghost use Rattle.srs_tree.specs.Snapshots.{Snapshot, snapshot_code};
+
+    ghost Value = { Snapshot };
+
+    ghost coded = { snapshot_code };
+
+    ghost use Rattle.srs_tree.specs.Nodes.{snapshot_of, IsCounted};
+
+    ghost view = { λ v. snapshot_of v.nodes.items };
+
+    ghost invariant = { λ v. IsCounted v.nodes.items v.count };
+}
+
+impl Version {
+    /// The version of the cell without an outcome, for a cell of at most 16 halves.
+    pub fn start(alloc: Global, cell: Cell) -> Result<Version, NoMemory>
+        requires { length cell ≤ 16 }
+        ensures { IfOk result (λ v. v ≡ record { region = cell; entries = map.empty }) }
+    {
+        // A cell has a point.
+        let _ = cell.region();
+        let Ok(cell) = Arc::new(alloc, cell) else {
+            return Err(NoMemory);
+        };
+        let mut nodes = Vec::new(alloc);
+        match nodes.push(Node::open(Path::root(), cell)) {
+            Ok(()) => Ok(Version { nodes, count: 0 }),
+            Err(_) => Err(NoMemory),
+        }
+    }
+
+    /// How many outcomes it has.
+    pub fn count(&self) -> u64
+        ensures count { result ≡ map.len self.now.entries }
+        ensures version { IsVersion self.now }
+    {
+        self.count
+    }
+
+    /// The outcome at the path, if it has one.
+    pub fn outcome(&self, path: Path) -> Option<&Outcome>
+        ensures { MatchOption result (tree_of self.now path ≡ None) (λ o. tree_of self.now path ≡ Some o.now) }
+    {
+        outcome_at(&self.nodes, &path)
+    }
+
+    /// An equal version.
+    pub fn share(&self, alloc: Global) -> Result<Version, NoMemory>
+        ensures { IfOk result (λ v. v ≡ self.now) }
+    {
+        Ok(Version {
+            nodes: copied(alloc, &self.nodes)?,
+            count: self.count,
+        })
+    }
+
+    /// The outcomes as events in preorder: a cell's, then those below its Ge part, then those below its Lt part.
+    pub fn preorder(&self, alloc: Global) -> Result<Journal, NoMemory>
+        ensures { IfOk result (λ events. events ≡ preorder_of self.now) }
+    {
+        let mut events = Journal::new(alloc);
+        walk(&self.nodes, 0, &mut events)?;
+        Ok(events)
+    }
+
+    /// The outcome of the finding is entered at the path; a cut's path is shorter than 48. An `Err` leaves the version as it
+    /// was.
+    pub fn add(&mut self, alloc: Global, path: Path, f: Finding) -> Result<(), TreeErr>
+        requires { IsShortCut path f.outcome }
+        ensures may { OnOk result (MayEnter self.old path f) }
+        ensures entered { OnOk result (self.new ≡ with_entry self.old path f.outcome) }
+        ensures refused { IfErr result (λ e. IsTreeErr self.old path f e) }
+        ensures same { OnErr result (self.new ≡ self.old) }
+    {
+        add_to(&mut self.nodes, alloc, &path, f)?;
+        self.count += 1;
+        Ok(())
+    }
+
+    /// The version with the outcome of the finding entered at the path; a cut's path is shorter than 48. The refusals but
+    /// want of memory come before anything of the new version is made.
+    pub fn with(&self, alloc: Global, path: Path, f: Finding) -> Result<Version, TreeErr>
+        requires { IsShortCut path f.outcome }
+        ensures may { OnOk result (MayEnter self.now path f) }
+        ensures entered { IfOk result (λ v. v ≡ with_entry self.now path f.outcome) }
+        ensures refused { IfErr result (λ e. IsTreeErr self.now path f e) }
+    {
+        let (_, f) = place_for(&self.nodes, &path, f)?;
+        let mut nodes = match copied(alloc, &self.nodes) {
+            Ok(nodes) => nodes,
+            Err(NoMemory) => return Err(TreeErr::NoMemory(f)),
+        };
+        add_to(&mut nodes, alloc, &path, f)?;
+        Ok(Version {
+            nodes,
+            count: self.count + 1,
+        })
+    }
+}
