@@ -5,7 +5,7 @@ use crate::cells::{CORNER, cell_of};
 use srs_cell::Cell;
 use srs_cut::{Judged, cutout, judge};
 use srs_graph::Graph;
-use srs_num::{Form, Pairs, V2};
+use srs_num::{Pairs, V2};
 use srs_path::{Cycle, Outcome};
 use srs_plane::Kind;
 use srs_text::Nums;
@@ -76,8 +76,15 @@ fn are_different(pairs: &[V2]) -> bool {
     true
 }
 
-fn form(a: i64, b: i64, c: i64) -> Option<Form> {
-    Form::new(a, b, c)
+// Where the cycle breaks first, and the numbers of the form that divides the cell; `None` where it covers the cell.
+fn failure(cell: &Cell, c: &Cycle) -> Option<(u32, Option<(i64, i64, i64)>)> {
+    match judge(cell, c) {
+        Judged::Covers => None,
+        Judged::Fails { at, divides } => match divides {
+            Some(form) => Some((at, Some(form.parts()))),
+            None => Some((at, None)),
+        },
+    }
 }
 
 #[test]
@@ -202,22 +209,23 @@ fn a_core_with_cycles(rt: HostRuntime) -> Result<(), Fail> {
 }
 
 #[test]
-fn what_a_cycle_covers(rt: HostRuntime) -> Result<(), Fail> {
+fn the_cutout_of_a_cycle(rt: HostRuntime) -> Result<(), Fail> {
     let alloc = rt.alloc();
     let one = cycle_of(alloc, &[1])?;
     let forms = cutout(alloc, &one)?;
     assert_eq!(rt; forms.len(), 2);
-    assert_eq!(rt; Some(*forms.get(0)), form(1, 1, 1));
-    assert_eq!(rt; Some(*forms.get(1)), form(1, 1, 0));
+    assert_eq!(rt; forms.get(0).parts(), (1, 1, 1));
+    assert_eq!(rt; forms.get(1).parts(), (1, 1, 0));
+    Ok(())
+}
 
-    assert_eq!(rt; judge(&closed(alloc, &CYCLE_ONE)?, &one), Judged::Covers);
+#[test]
+fn what_a_cycle_covers(rt: HostRuntime) -> Result<(), Fail> {
+    let alloc = rt.alloc();
+    let one = cycle_of(alloc, &[1])?;
+    assert_eq!(rt; failure(&closed(alloc, &CYCLE_ONE)?, &one), None);
     // x + y is at least 0 in the corner, and of both signs round (0, 0)
-    let corner = Judged::Fails { at: 0, divides: None };
-    assert_eq!(rt; judge(&closed(alloc, &CORNER)?, &one), corner);
-    let origin = Judged::Fails {
-        at: 0,
-        divides: form(1, 1, 0),
-    };
-    assert_eq!(rt; judge(&closed(alloc, &ORIGIN)?, &one), origin);
+    assert_eq!(rt; failure(&closed(alloc, &CORNER)?, &one), Some((0, None)));
+    assert_eq!(rt; failure(&closed(alloc, &ORIGIN)?, &one), Some((0, Some((1, 1, 0)))));
     Ok(())
 }

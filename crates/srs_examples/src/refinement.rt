@@ -2,7 +2,6 @@
 use crate::cells::{CORNER, cell_of};
 use srs_cell::Cell;
 use srs_grid::line;
-use srs_num::Form;
 use srs_path::{Cause, Finding, Last, Outcome, Why};
 use srs_plane::Kind;
 use srs_refine::refine;
@@ -41,10 +40,19 @@ fn outside(finding: &Finding) -> Option<(u32, i64)> {
     }
 }
 
-fn cut(finding: &Finding) -> Option<Form> {
+// The numbers of the form that cuts.
+fn cut(finding: &Finding) -> Option<(i64, i64, i64)> {
     match finding.outcome() {
-        Outcome::Cut(form) => Some(*form),
+        Outcome::Cut(form) => Some(form.parts()),
         _ => None,
+    }
+}
+
+// The numbers of the first grid line.
+fn grid_line(cell: &Cell) -> Option<(i64, i64, i64)> {
+    match line(cell) {
+        Some(form) => Some(form.parts()),
+        None => None,
     }
 }
 
@@ -59,13 +67,13 @@ fn cause(finding: &Finding) -> Option<Cause> {
 fn cut_cells(rt: HostRuntime) -> Result<(), Fail> {
     let alloc = rt.alloc();
     let root = refine(alloc, &part(alloc, &[])?, None, 16)?;
-    assert_eq!(rt; cut(&root), Form::new(0, 1, 0));
+    assert_eq!(rt; cut(&root), Some((0, 1, 0)));
     assert_eq!(rt; root.region().len(), 3);
     assert_eq!(rt; root.w(), 16);
     let up = refine(alloc, &part(alloc, &[UP])?, None, 16)?;
-    assert_eq!(rt; cut(&up), Form::new(1, 0, 0));
+    assert_eq!(rt; cut(&up), Some((1, 0, 0)));
     let down = refine(alloc, &part(alloc, &[DOWN])?, None, 16)?;
-    assert_eq!(rt; cut(&down), Form::new(1, 1, 0));
+    assert_eq!(rt; cut(&down), Some((1, 1, 0)));
     Ok(())
 }
 
@@ -97,7 +105,7 @@ fn left_cells(rt: HostRuntime) -> Result<(), Fail> {
     assert_eq!(rt; cause(&large), Some(Cause::Depth(Why::Witness)));
     // where no limit is spent, it is cut by a grid line
     let open = refine(alloc, &corner, None, 8)?;
-    assert_eq!(rt; cut(&open), Form::new(8, 0, -1));
+    assert_eq!(rt; cut(&open), Some((8, 0, -1)));
     Ok(())
 }
 
@@ -105,16 +113,16 @@ fn left_cells(rt: HostRuntime) -> Result<(), Fail> {
 fn grid_lines(rt: HostRuntime) -> Result<(), Fail> {
     let alloc = rt.alloc();
     // x = 0 goes before y = 0
-    assert_eq!(rt; line(&part(alloc, &[])?), Form::new(1, 0, 0));
+    assert_eq!(rt; grid_line(&part(alloc, &[])?), Some((1, 0, 0)));
     // x is below 1/8 and y below 0 here
-    assert_eq!(rt; line(&part(alloc, &[RIGHT, DOWN])?), Form::new(16, 0, -1));
+    assert_eq!(rt; grid_line(&part(alloc, &[RIGHT, DOWN])?), Some((16, 0, -1)));
     // the closed corner has points with x = 1/8, the open one doesn't
     let closed = cell_of(alloc, &CORNER, Kind::Ge, &[])?.ok_or("it has a point")?;
-    assert_eq!(rt; line(&closed), Form::new(8, 0, -1));
+    assert_eq!(rt; grid_line(&closed), Some((8, 0, -1)));
     let open = cell_of(alloc, &CORNER, Kind::Gt, &[])?.ok_or("it has a point")?;
-    assert_eq!(rt; line(&open), Form::new(16, 0, -1));
+    assert_eq!(rt; grid_line(&open), Some((16, 0, -1)));
     // no line divides a single point
     let point = cell_of(alloc, &CORNER, Kind::Ge, &[(-1, -1, 0, Kind::Ge)])?.ok_or("it is a point")?;
-    assert_eq!(rt; line(&point), None);
+    assert_eq!(rt; grid_line(&point), None);
     Ok(())
 }
