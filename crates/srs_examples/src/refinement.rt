@@ -1,8 +1,10 @@
 // The outcomes of cells, and the grid lines that cut what isn't small.
+ghost use Rattle.std.specs.Prelude.{◌≤◌};
+
 use crate::cells::{CORNER, cell_of};
 use srs_cell::Cell;
 use srs_grid::line;
-use srs_path::{Cause, Finding, Last, Outcome, Why};
+use srs_path::{Cause, Last, Outcome, Why};
 use srs_plane::Kind;
 use srs_refine::refine;
 use std::alloc::Global;
@@ -25,26 +27,42 @@ fn part(alloc: Global, halves: &[(i64, i64, i64, Kind)]) -> Result<Cell, Fail> {
     Ok(cell)
 }
 
-fn inside(finding: &Finding) -> Option<u32> {
+// How many witnesses the part has, where it is inside.
+fn inside(alloc: Global, halves: &[(i64, i64, i64, Kind)], last: Option<Last>) -> Result<Option<u32>, Fail> {
+    let finding = refine(alloc, &part(alloc, halves)?, last, 16)?;
     match finding.outcome() {
-        Outcome::Inside(ranks) => Some(ranks.len()),
-        _ => None,
+        Outcome::Inside(ranks) => Ok(Some(ranks.len())),
+        _ => Ok(None),
     }
 }
 
-// The length and the first entry of the cycle.
-fn outside(finding: &Finding) -> Option<(u32, i64)> {
+// The length and the first entry of the cycle of the part, where it is outside.
+fn outside(alloc: Global, halves: &[(i64, i64, i64, Kind)], last: Option<Last>) -> Result<Option<(u32, i64)>, Fail> {
+    let finding = refine(alloc, &part(alloc, halves)?, last, 16)?;
     match finding.outcome() {
-        Outcome::Outside(cycle) => Some((cycle.len(), cycle.entry(0))),
-        _ => None,
+        Outcome::Outside(cycle) => Ok(Some((cycle.len(), cycle.entry(0)))),
+        _ => Ok(None),
     }
 }
 
-// The numbers of the form that cuts.
-fn cut(finding: &Finding) -> Option<(i64, i64, i64)> {
+// The numbers of the form that cuts the part, where no limit is spent.
+fn cut(alloc: Global, halves: &[(i64, i64, i64, Kind)]) -> Result<Option<(i64, i64, i64)>, Fail> {
+    let finding = refine(alloc, &part(alloc, halves)?, None, 16)?;
     match finding.outcome() {
-        Outcome::Cut(form) => Some(form.parts()),
-        _ => None,
+        Outcome::Cut(form) => Ok(Some(form.parts())),
+        _ => Ok(None),
+    }
+}
+
+// Why the cell is left, for at most `w` witnesses.
+fn cause(alloc: Global, cell: &Cell, last: Last, w: u32) -> Result<Option<Cause>, Fail>
+    requires some { 1 ≤ w }
+    requires few { w ≤ 16384 }
+{
+    let finding = refine(alloc, cell, Some(last), w)?;
+    match finding.outcome() {
+        Outcome::Left(cause) => Ok(Some(*cause)),
+        _ => Ok(None),
     }
 }
 
@@ -56,38 +74,29 @@ fn grid_line(cell: &Cell) -> Option<(i64, i64, i64)> {
     }
 }
 
-fn cause(finding: &Finding) -> Option<Cause> {
-    match finding.outcome() {
-        Outcome::Left(cause) => Some(*cause),
-        _ => None,
-    }
-}
-
 #[test]
 fn cut_cells(rt: HostRuntime) -> Result<(), Fail> {
     let alloc = rt.alloc();
-    let root = refine(alloc, &part(alloc, &[])?, None, 16)?;
-    assert_eq!(rt; cut(&root), Some((0, 1, 0)));
-    assert_eq!(rt; root.region().len(), 3);
-    assert_eq!(rt; root.w(), 16);
-    let up = refine(alloc, &part(alloc, &[UP])?, None, 16)?;
-    assert_eq!(rt; cut(&up), Some((1, 0, 0)));
-    let down = refine(alloc, &part(alloc, &[DOWN])?, None, 16)?;
-    assert_eq!(rt; cut(&down), Some((1, 1, 0)));
+    assert_eq!(rt; cut(alloc, &[])?, Some((0, 1, 0)));
+    assert_eq!(rt; cut(alloc, &[UP])?, Some((1, 0, 0)));
+    assert_eq!(rt; cut(alloc, &[DOWN])?, Some((1, 1, 0)));
     Ok(())
 }
 
 #[test]
-fn decided_cells(rt: HostRuntime) -> Result<(), Fail> {
+fn inside_cells(rt: HostRuntime) -> Result<(), Fail> {
     let alloc = rt.alloc();
-    let up_right = refine(alloc, &part(alloc, &[UP, RIGHT])?, Some(Last::Depth), 16)?;
-    assert_eq!(rt; inside(&up_right), Some(5));
-    let up_left = refine(alloc, &part(alloc, &[UP, LEFT])?, Some(Last::Depth), 16)?;
-    assert_eq!(rt; outside(&up_left), Some((2, 0)));
-    let down_over = refine(alloc, &part(alloc, &[DOWN, OVER])?, Some(Last::Cells), 16)?;
-    assert_eq!(rt; inside(&down_over), Some(9));
-    let down_under = refine(alloc, &part(alloc, &[DOWN, UNDER])?, None, 16)?;
-    assert_eq!(rt; outside(&down_under), Some((1, 1)));
+    assert_eq!(rt; inside(alloc, &[UP, RIGHT], Some(Last::Depth))?, Some(5));
+    assert_eq!(rt; inside(alloc, &[DOWN, OVER], Some(Last::Cells))?, Some(9));
+    assert_eq!(rt; inside(alloc, &[UP, LEFT], None)?, None);
+    Ok(())
+}
+
+#[test]
+fn outside_cells(rt: HostRuntime) -> Result<(), Fail> {
+    let alloc = rt.alloc();
+    assert_eq!(rt; outside(alloc, &[UP, LEFT], Some(Last::Depth))?, Some((2, 0)));
+    assert_eq!(rt; outside(alloc, &[DOWN, UNDER], None)?, Some((1, 1)));
     Ok(())
 }
 
@@ -95,17 +104,10 @@ fn decided_cells(rt: HostRuntime) -> Result<(), Fail> {
 fn left_cells(rt: HostRuntime) -> Result<(), Fail> {
     let alloc = rt.alloc();
     let root = part(alloc, &[])?;
-    let deep = refine(alloc, &root, Some(Last::Depth), 16)?;
-    assert_eq!(rt; cause(&deep), Some(Cause::Depth(Why::Cycle)));
-    let full = refine(alloc, &root, Some(Last::Cells), 16)?;
-    assert_eq!(rt; cause(&full), Some(Cause::Cells(Why::Cycle)));
-    // eight witnesses are too few for the corner
-    let corner = cell_of(alloc, &CORNER, Kind::Ge, &[])?.ok_or("it has a point")?;
-    let large = refine(alloc, &corner, Some(Last::Depth), 8)?;
-    assert_eq!(rt; cause(&large), Some(Cause::Depth(Why::Witness)));
-    // where no limit is spent, it is cut by a grid line
-    let open = refine(alloc, &corner, None, 8)?;
-    assert_eq!(rt; cut(&open), Some((8, 0, -1)));
+    assert_eq!(rt; cause(alloc, &root, Last::Depth, 16)?, Some(Cause::Depth(Why::Cycle)));
+    assert_eq!(rt; cause(alloc, &root, Last::Cells, 16)?, Some(Cause::Cells(Why::Cycle)));
+    // eight witnesses are too few for it
+    assert_eq!(rt; cause(alloc, &root, Last::Depth, 8)?, Some(Cause::Depth(Why::Witness)));
     Ok(())
 }
 
