@@ -7,6 +7,8 @@ mod cells;
 #[cfg(test)]
 mod counting;
 #[cfg(test)]
+mod cuts;
+#[cfg(test)]
 mod orbits;
 #[cfg(test)]
 mod outcomes;
@@ -14,3 +16,5 @@ mod outcomes;
 mod polygons;
 #[cfg(test)]
 mod refinement;
+#[cfg(test)]
+mod versions;

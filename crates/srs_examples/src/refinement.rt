@@ -11,7 +11,7 @@ use std::alloc::Global;
 use std::test::Fail;
 
 // The triangle (-1/8, 0), (0, -1/8), (1/8, 0).
-const SPLIT: [(i64, i64, i64); 3] = [(-1, 0, 8), (0, -1, 8), (1, 0, 8)];
+pub const SPLIT: [(i64, i64, i64); 3] = [(-1, 0, 8), (0, -1, 8), (1, 0, 8)];
 
 // The two sides of y = 0, x = 0 and x + y = 0.
 const UP: (i64, i64, i64, Kind) = (0, 1, 0, Kind::Ge);
@@ -22,7 +22,7 @@ const OVER: (i64, i64, i64, Kind) = (1, 1, 0, Kind::Ge);
 const UNDER: (i64, i64, i64, Kind) = (-1, -1, 0, Kind::Gt);
 
 // A part of the triangle.
-fn part(alloc: Global, halves: &[(i64, i64, i64, Kind)]) -> Result<Cell, Fail> {
+pub fn part(alloc: Global, halves: &[(i64, i64, i64, Kind)]) -> Result<Cell, Fail> {
     let cell = cell_of(alloc, &SPLIT, Kind::Ge, halves)?.ok_or("it has a point")?;
     Ok(cell)
 }
