@@ -113,23 +113,23 @@ part_new H p s fresh (inl q) = absurd (omega (arith, ap length q, length-append 
 part_new H p s fresh (inr q) = none-some _ (sym fresh ∙ ap (outcome_at H) (same_parent p q.parent s q.side q.is) ∙ q.cut)
 
 -- the list of cells_of has exactly the cells_of, and each once
-pub record AreCells (R0 : Area) (W : ℕ) (H : History) : Type 0 where
-  pub legal : IsLegal R0 W H
+pub record AreCells (Root : Area) (W : ℕ) (H : History) : Type 0 where
+  pub legal : IsLegal Root W H
   pub to : (p : List Side) → Contains (cells_of H) p → IsCellOf (outcome_at H) p
   pub from : (p : List Side) → IsCellOf (outcome_at H) p → Contains (cells_of H) p
   pub once : AllPairs ◌≢◌ (cells_of H)
 
-cells_empty : (R0 : Area) (W : ℕ) → AreCells R0 W []
-cells_empty R0 W = record {
-  legal = IsLegal-empty R0 W;
+cells_empty : (Root : Area) (W : ℕ) → AreCells Root W []
+cells_empty Root W = record {
+  legal = IsLegal-empty Root W;
   to = λ p c. inl (sym (in_one [] p c.0 c.1 c.2));
   from = λ p c. elim c [ inl e ↦ subst (Contains ([] ∷ [])) (sym e) (0, omega arith, refl) | inr c ↦ absurd (none-some _ c.cut) ];
   once = λ i j d l m. absurd (omega (arith, l, m));
 }
 
-cells_step : (R0 : Area) (W : ℕ) (H : History) (e : Entry) → AreCells R0 W H → MayFollow R0 W H e → AreCells R0 W (H ++ e ∷ [])
-cells_step R0 W H e old may = record {
-  legal = IsLegal-append R0 W H e old.legal may;
+cells_step : (Root : Area) (W : ℕ) (H : History) (e : Entry) → AreCells Root W H → MayFollow Root W H e → AreCells Root W (H ++ e ∷ [])
+cells_step Root W H e old may = record {
+  legal = IsLegal-append Root W H e old.legal may;
   to = to;
   from = from;
   once = subst (AllPairs ◌≢◌) (sym (cells-append H e)) (pairs_grow (cells_of H) e.path e.outcome old.once new);
@@ -159,5 +159,5 @@ cells_step R0 W H e old may = record {
     new : (h : LinearForm) (s : Side) → e.outcome ≡ Cut h → Contains (cells_of H) (e.path ++ s ∷ []) → ⊥
     new h s is c = part_new H e.path s may.fresh (old.to (e.path ++ s ∷ []) c)
 
-pub cells_are : (R0 : Area) (W : ℕ) (H : History) → IsLegal R0 W H → AreCells R0 W H
-cells_are R0 W H legal = grow (MayFollow R0 W) (AreCells R0 W) (cells_empty R0 W) (λ G e old may. cells_step R0 W G e old may) H legal
+pub cells_are : (Root : Area) (W : ℕ) (H : History) → IsLegal Root W H → AreCells Root W H
+cells_are Root W H legal = grow (MayFollow Root W) (AreCells Root W) (cells_empty Root W) (λ G e old may. cells_step Root W G e old may) H legal

@@ -57,15 +57,15 @@ slice_get_snoc (x ∷ H) e (suc k) f g =
     elim (slice_get_snoc H e k f g) [ inl u ↦ inl (u.0, ap (λ (t : History). x ∷ t) u.1) | inr u ↦ inr (u.0, ap (λ (t : History). x ∷ t) u.1) ]
 
 -- a legal history stays legal with an event that may follow it
-pub IsLegal-append : (R0 : Area) (W : ℕ) (H : History) (e : Entry) → IsLegal R0 W H → MayFollow R0 W H e → IsLegal R0 W (H ++ e ∷ [])
-IsLegal-append R0 W H e legal may k f g =
+pub IsLegal-append : (Root : Area) (W : ℕ) (H : History) (e : Entry) → IsLegal Root W H → MayFollow Root W H e → IsLegal Root W (H ++ e ∷ [])
+IsLegal-append Root W H e legal may k f g =
     elim (slice_get_snoc H e k f g) [
-      | inl u ↦ subst (λ (G : History). MayFollow R0 W G f) (sym u.1) (legal k f u.0)
-      | inr u ↦ subst (λ (G : History). MayFollow R0 W G f) (sym u.1) (subst (λ (x : Entry). MayFollow R0 W H x) (sym u.0) may)
+      | inl u ↦ subst (λ (G : History). MayFollow Root W G f) (sym u.1) (legal k f u.0)
+      | inr u ↦ subst (λ (G : History). MayFollow Root W G f) (sym u.1) (subst (λ (x : Entry). MayFollow Root W H x) (sym u.0) may)
     ]
 
-pub IsLegal-empty : (R0 : Area) (W : ℕ) → IsLegal R0 W []
-IsLegal-empty R0 W k e g = absurd (let u : true ≡ false = cc in true≢false u)
+pub IsLegal-empty : (Root : Area) (W : ℕ) → IsLegal Root W []
+IsLegal-empty Root W k e g = absurd (let u : true ≡ false = cc in true≢false u)
 
 -- the cell of a part is the cell of the parent with the side's half appended
 halves_along_snoc : (T : Tree) (above rest : List Side) (s : Side) → halves_along T above (rest ++ s ∷ []) ≡ halves_along T above rest ++ cut_half (T (above ++ rest)) s
@@ -74,17 +74,17 @@ halves_along_snoc T above (t ∷ rest) s =
     ap (λ x. cut_half (T above) t ++ x) (halves_along_snoc T (above ++ t ∷ []) rest s ∙ ap (λ p. halves_along T (above ++ t ∷ []) rest ++ cut_half (T p) s) (append_assoc above (t ∷ []) rest))
     ∙ sym (append_assoc (cut_half (T above) t) _ _)
 
-pub region_at-snoc : (R0 : Area) (T : Tree) (p : List Side) (s : Side) → region_at R0 T (p ++ s ∷ []) ≡ region_at R0 T p ++ cut_half (T p) s
-region_at-snoc R0 T p s = ap (λ x. R0 ++ x) (halves_along_snoc T [] p s) ∙ sym (append_assoc R0 _ _)
+pub region_at-snoc : (Root : Area) (T : Tree) (p : List Side) (s : Side) → region_at Root T (p ++ s ∷ []) ≡ region_at Root T p ++ cut_half (T p) s
+region_at-snoc Root T p s = ap (λ x. Root ++ x) (halves_along_snoc T [] p s) ∙ sym (append_assoc Root _ _)
 
 -- the empty history: the root is the one leaf
 root_only : (p : List Side) → IsLeafOf (outcome_at []) p → p ≡ []
 root_only p leaf = elim leaf.cell [ inl e ↦ e | inr c ↦ absurd (let u : true ≡ false = cc (c.cut) in true≢false u) ]
 
 -- the empty history partitions a region that has a point
-pub IsPartition-empty : (R0 : Area) → HasPoint R0 → IsPartition R0 (outcome_at [])
-IsPartition-empty R0 some = record {
-  covered = λ r i. ([], record { leaf = root; point = subst (λ (R : Area). IsIn R r) (sym (append-nil R0)) i });
+pub IsPartition-empty : (Root : Area) → HasPoint Root → IsPartition Root (outcome_at [])
+IsPartition-empty Root some = record {
+  covered = λ r i. ([], record { leaf = root; point = subst (λ (R : Area). IsIn R r) (sym (append-nil Root)) i });
   once = λ r p q h k. root_only p h.leaf ∙ sym (root_only q k.leaf);
   pointed = λ p leaf. subst HasPoint (same p leaf) some;
   within = λ r p h. subst (λ (R : Area). IsIn R r) (sym (same p h.leaf)) h.point;
@@ -93,5 +93,5 @@ IsPartition-empty R0 some = record {
     root : IsLeafOf (outcome_at []) []
     root = record { cell = inl refl; no_cut = λ h e. let u : true ≡ false = cc in true≢false u }
 
-    same : (p : List Side) → IsLeafOf (outcome_at []) p → R0 ≡ region_at R0 (outcome_at []) p
-    same p leaf = sym (append-nil R0) ∙ ap (region_at R0 (outcome_at [])) (sym (root_only p leaf))
+    same : (p : List Side) → IsLeafOf (outcome_at []) p → Root ≡ region_at Root (outcome_at []) p
+    same p leaf = sym (append-nil Root) ∙ ap (region_at Root (outcome_at [])) (sym (root_only p leaf))

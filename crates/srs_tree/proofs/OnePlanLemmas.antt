@@ -88,26 +88,26 @@ halves_agree G H k agree above [] l = refl
 halves_agree G H k agree above (s ∷ rest) l =
     ap₂ (λ (o : Option Outcome) (x : Area). cut_half o s ++ x) (agree above (omega arith)) (halves_agree G H k agree (above ++ s ∷ []) rest (omega (arith, length-append above (s ∷ []))))
 
-pub region_agree : (R0 : Area) (G H : History) (k : ℕ) → Agree G H k → (p : List Side) → length p ≤ k → region_at R0 (outcome_at G) p ≡ region_at R0 (outcome_at H) p
-region_agree R0 G H k agree p l = ap (λ (x : Area). R0 ++ x) (halves_agree G H k agree [] p (omega arith))
+pub region_agree : (Root : Area) (G H : History) (k : ℕ) → Agree G H k → (p : List Side) → length p ≤ k → region_at Root (outcome_at G) p ≡ region_at Root (outcome_at H) p
+region_agree Root G H k agree p l = ap (λ (x : Area). Root ++ x) (halves_agree G H k agree [] p (omega arith))
 
 le_holds : (a k : ℕ) → nat_le a k ≡ true → a ≤ k
 le_holds a k e = grind (arith, nat_tests)
 
-module _ (R0 : Area) (W : ℕ) (G H : History) (k : ℕ) (one : IsLegal R0 W G) (two : IsLegal R0 W H) (agree : Agree G H k) where
-  listed : (K M : History) → IsLegal R0 W K → IsLegal R0 W M → Agree K M k → (p : List Side) → length p ≤ k → Contains (cells_of K) p → Contains (cells_of M) p
-  listed K M a b g p l c = (cells_are R0 W M b).from p (cell_agree K M k g p l ((cells_are R0 W K a).to p c))
+module _ (Root : Area) (W : ℕ) (G H : History) (k : ℕ) (one : IsLegal Root W G) (two : IsLegal Root W H) (agree : Agree G H k) where
+  listed : (K M : History) → IsLegal Root W K → IsLegal Root W M → Agree K M k → (p : List Side) → length p ≤ k → Contains (cells_of K) p → Contains (cells_of M) p
+  listed K M a b g p l c = (cells_are Root W M b).from p (cell_agree K M k g p l ((cells_are Root W K a).to p c))
 
   pub upto_agree : upto G k ≡ upto H k
   upto_agree = count_same (λ p. nat_le (length p) k) (cells_of G) (cells_of H)
       (λ p t c. listed G H one two agree p (le_holds _ k t) c) (λ p t c. listed H G two one (turned G H k agree) p (le_holds _ k t) c)
-      (cells_are R0 W G one).once (cells_are R0 W H two).once
+      (cells_are Root W G one).once (cells_are Root W H two).once
 
   pub row_agree : row_of G k ≡ row_of H k
   row_agree = count_same (λ p. length p == k) (cells_of G) (cells_of H)
       (λ p t c. let e : length p ≡ k = (Decides-eqb (length p) k).0 t in listed G H one two agree p (omega arith) c)
       (λ p t c. let e : length p ≡ k = (Decides-eqb (length p) k).0 t in listed H G two one (turned G H k agree) p (omega arith) c)
-      (cells_are R0 W G one).once (cells_are R0 W H two).once
+      (cells_are Root W G one).once (cells_are Root W H two).once
 
 abbrev entry_at : List Side → Outcome → Entry
 entry_at p o = record { path = p; outcome = o }
@@ -127,54 +127,54 @@ has_event H p o e = let t = place_of H p o e in
     (t.0, slice_get_within H t.0 (entry_at p o) t.1, get_or_from_slice_get H t.0 (entry_at p o) (entry_at p o) t.1)
 
 -- each outcome of a legal history is sound on its cell
-pub sound_at : (R0 : Area) (W : ℕ) (H : History) → IsLegal R0 W H → (p : List Side) (o : Outcome) → outcome_at H p ≡ Some o → IsSound (region_at R0 (outcome_at H) p) W o
-sound_at R0 W H legal p o e =
+pub sound_at : (Root : Area) (W : ℕ) (H : History) → IsLegal Root W H → (p : List Side) (o : Outcome) → outcome_at H p ≡ Some o → IsSound (region_at Root (outcome_at H) p) W o
+sound_at Root W H legal p o e =
     let t = place_of H p o e in
     let G : History = take t.0 H in
     let K : History = drop t.0 H in
     let joined : G ++ K ≡ H = take-append-drop t.0 H in
-    let may : MayFollow R0 W G (entry_at p o) = legal t.0 (entry_at p o) t.1 in
-    let early : IsLegal R0 W G = IsLegal-first R0 W G K (subst (IsLegal R0 W) (sym joined) legal) in
-    let same : region_at R0 (outcome_at (G ++ K)) p ≡ region_at R0 (outcome_at G) p = region_at_stays R0 W G early K p may.there in
-    subst (λ (u : History). IsSound (region_at R0 (outcome_at u) p) W o) joined (subst (λ (R : Area). IsSound R W o) (sym same) may.sound)
+    let may : MayFollow Root W G (entry_at p o) = legal t.0 (entry_at p o) t.1 in
+    let early : IsLegal Root W G = IsLegal-first Root W G K (subst (IsLegal Root W) (sym joined) legal) in
+    let same : region_at Root (outcome_at (G ++ K)) p ≡ region_at Root (outcome_at G) p = region_at_stays Root W G early K p may.there in
+    subst (λ (u : History). IsSound (region_at Root (outcome_at u) p) W o) joined (subst (λ (R : Area). IsSound R W o) (sym same) may.sound)
 
 -- each cell of a legal history has a point
-module _ (R0 : Area) (W : ℕ) (H : History) (some : HasPoint R0) (legal : IsLegal R0 W H) where
-  pub side_point : (p : List Side) (h : LinearForm) (s : Side) → outcome_at H p ≡ Some (Cut h) → (r : Point) × IsIn (region_at R0 (outcome_at H) p) r × Sign s (value h r)
-  side_point p h Ge e = (sound_at R0 W H legal p (Cut h) e).not_below
-  side_point p h Lt e = (sound_at R0 W H legal p (Cut h) e).below
+module _ (Root : Area) (W : ℕ) (H : History) (some : HasPoint Root) (legal : IsLegal Root W H) where
+  pub side_point : (p : List Side) (h : LinearForm) (s : Side) → outcome_at H p ≡ Some (Cut h) → (r : Point) × IsIn (region_at Root (outcome_at H) p) r × Sign s (value h r)
+  side_point p h Ge e = (sound_at Root W H legal p (Cut h) e).not_below
+  side_point p h Lt e = (sound_at Root W H legal p (Cut h) e).below
 
-  pub cell_point : (p : List Side) → IsCellOf (outcome_at H) p → HasPoint (region_at R0 (outcome_at H) p)
-  cell_point p (inl e) = subst HasPoint (sym (append-nil R0) ∙ ap (region_at R0 (outcome_at H)) (sym e)) some
+  pub cell_point : (p : List Side) → IsCellOf (outcome_at H) p → HasPoint (region_at Root (outcome_at H) p)
+  cell_point p (inl e) = subst HasPoint (sym (append-nil Root) ∙ ap (region_at Root (outcome_at H)) (sym e)) some
   cell_point p (inr c) =
       let t = side_point c.parent c.form c.side c.cut in
-      let same : region_at R0 (outcome_at H) p ≡ region_at R0 (outcome_at H) c.parent ++ half_on c.side c.form ∷ [] =
-      ap (region_at R0 (outcome_at H)) c.is ∙ region_at-snoc R0 (outcome_at H) c.parent c.side ∙ ap (λ (o : Option Outcome). region_at R0 (outcome_at H) c.parent ++ cut_half o c.side) c.cut in
-      (t.0, subst (λ (R : Area). IsIn R t.0) (sym same) (IsIn-push (region_at R0 (outcome_at H) c.parent) (half_on c.side c.form) t.0 t.1 (on_side c.side c.form t.0 t.2)))
+      let same : region_at Root (outcome_at H) p ≡ region_at Root (outcome_at H) c.parent ++ half_on c.side c.form ∷ [] =
+      ap (region_at Root (outcome_at H)) c.is ∙ region_at-snoc Root (outcome_at H) c.parent c.side ∙ ap (λ (o : Option Outcome). region_at Root (outcome_at H) c.parent ++ cut_half o c.side) c.cut in
+      (t.0, subst (λ (R : Area). IsIn R t.0) (sym same) (IsIn-push (region_at Root (outcome_at H) c.parent) (half_on c.side c.form) t.0 t.1 (on_side c.side c.form t.0 t.2)))
 
 -- what a plan has at a path is the outcome of its cell
-pub refined_at : (R0 : Area) (L : Budget) (H : History) → IsPlan R0 L H → (p : List Side) (o : Outcome) → outcome_at H p ≡ Some o → Refines (region_at R0 (outcome_at H) p) (last_in L H (length p)) L.wits o
-refined_at R0 L H plan p o e =
+pub refined_at : (Root : Area) (L : Budget) (H : History) → IsPlan Root L H → (p : List Side) (o : Outcome) → outcome_at H p ≡ Some o → Refines (region_at Root (outcome_at H) p) (last_in L H (length p)) L.wits o
+refined_at Root L H plan p o e =
     let c : Contains H (entry_at p o) = has_event H p o e in
     elim (plan.whole.each_event (entry_at p o) c) [ inl m ↦ absurd (plan.no_memory (entry_at p o) c m) | inr r ↦ r ]
 
 by_lt : {P : Type 0} (a b : ℕ) → (a < b → P) → (a ≡ b → P) → (b < a → P) → P
 by_lt {P} a b l e g = elim (dec_lt a b) as (λ _. P) [ yes h ↦ l h | no h ↦ elim (dec_lt b a) as (λ _. P) [ yes k ↦ g k | no k ↦ e (omega arith) ] ]
 
-module _ (R0 : Area) (L : Budget) where
+module _ (Root : Area) (L : Budget) where
   -- what the first plan has at a path of length k, the second has too
-  has_too : (G H : History) → IsPlan R0 L G → IsPlan R0 L H → (k : ℕ) → Agree G H k → (p : List Side) → length p ≡ k → (o : Outcome) → outcome_at G p ≡ Some o → outcome_at H p ≡ Some o
+  has_too : (G H : History) → IsPlan Root L G → IsPlan Root L H → (k : ℕ) → Agree G H k → (p : List Side) → length p ≡ k → (o : Outcome) → outcome_at G p ≡ Some o → outcome_at H p ≡ Some o
   has_too G H one two k agree p l o e =
       let short : length p ≤ k = omega arith in
-      let here : IsCellOf (outcome_at G) p = cell_of_outcome R0 L.wits G one.whole.legal p o e in
+      let here : IsCellOf (outcome_at G) p = cell_of_outcome Root L.wits G one.whole.legal p o e in
       let there : IsCellOf (outcome_at H) p = cell_agree G H k agree p short here in
       let t = some_is (outcome_at H p) (two.whole.each_cell p there) in
-      let last : last_in L G k ≡ last_in L H k = last_same L G H k (upto_agree R0 L.wits G H k one.whole.legal two.whole.legal agree) (row_agree R0 L.wits G H k one.whole.legal two.whole.legal agree) in
+      let last : last_in L G k ≡ last_in L H k = last_same L G H k (upto_agree Root L.wits G H k one.whole.legal two.whole.legal agree) (row_agree Root L.wits G H k one.whole.legal two.whole.legal agree) in
       let last_p : last_in L G (length p) ≡ last_in L H (length p) = subst (λ (n : ℕ). last_in L G n ≡ last_in L H n) (sym l) last in
-      let region : region_at R0 (outcome_at G) p ≡ region_at R0 (outcome_at H) p = region_agree R0 G H k agree p short in
-      let a : Refines (region_at R0 (outcome_at H) p) (last_in L H (length p)) L.wits o =
-      subst (λ (R : Area). Refines R (last_in L H (length p)) L.wits o) region (subst (λ (x : Option Last). Refines (region_at R0 (outcome_at G) p) x L.wits o) last_p (refined_at R0 L G one p o e)) in
-      let same : o ≡ t.0 = outcome_once (region_at R0 (outcome_at H) p) L.wits (last_in L H (length p)) o t.0 a (refined_at R0 L H two p t.0 t.1) in
+      let region : region_at Root (outcome_at G) p ≡ region_at Root (outcome_at H) p = region_agree Root G H k agree p short in
+      let a : Refines (region_at Root (outcome_at H) p) (last_in L H (length p)) L.wits o =
+      subst (λ (R : Area). Refines R (last_in L H (length p)) L.wits o) region (subst (λ (x : Option Last). Refines (region_at Root (outcome_at G) p) x L.wits o) last_p (refined_at Root L G one p o e)) in
+      let same : o ≡ t.0 = outcome_once (region_at Root (outcome_at H) p) L.wits (last_in L H (length p)) o t.0 a (refined_at Root L H two p t.0 t.1) in
       t.1 ∙ ap Some (sym same)
 
   both_ways : (x y : Option Outcome) → ((o : Outcome) → x ≡ Some o → y ≡ Some o) → ((o : Outcome) → y ≡ Some o → x ≡ Some o) → x ≡ y
@@ -182,7 +182,7 @@ module _ (R0 : Area) (L : Budget) where
   both_ways None (Some o) f g = g o refl
   both_ways (Some o) y f g = sym (f o refl)
 
-  agree_to : (G H : History) → IsPlan R0 L G → IsPlan R0 L H → (k : ℕ) → Agree G H k
+  agree_to : (G H : History) → IsPlan Root L G → IsPlan Root L H → (k : ℕ) → Agree G H k
   agree_to G H one two zero p l = absurd (omega arith)
   agree_to G H one two (suc k) p l =
       let below : Agree G H k = agree_to G H one two k in
@@ -190,8 +190,8 @@ module _ (R0 : Area) (L : Budget) where
       (λ e. both_ways (outcome_at G p) (outcome_at H p) (has_too G H one two k below p e) (has_too H G two one k (turned G H k below) p e))
       (λ m. absurd (omega arith))
 
-  plans_agree : (G H : History) → IsPlan R0 L G → IsPlan R0 L H → HaveSameEntries G H
+  plans_agree : (G H : History) → IsPlan Root L G → IsPlan Root L H → HaveSameEntries G H
   plans_agree G H one two p = agree_to G H one two (suc (length p)) p (omega arith)
 
 pub one_plan : PlansAreSame
-one_plan R0 L G H one two = plans_agree R0 L G H one two
+one_plan Root L G H one two = plans_agree Root L G H one two

@@ -16,7 +16,7 @@ use Rattle.srs_tree.proofs.Grow.{grow, Each-first}
 use Rattle.srs_tree.proofs.CellsLemmas.{outcome_cases}
 
 -- an event that isn't a cut: the leaves and their regions stay
-module _ (R0 : Area) (W : ℕ) (H : History) (legal : IsLegal R0 W H) (parts : IsPartition R0 (outcome_at H)) (e : Entry) (plain : (h : LinearForm) → e.outcome ≢ Cut h) where
+module _ (Root : Area) (W : ℕ) (H : History) (legal : IsLegal Root W H) (parts : IsPartition Root (outcome_at H)) (e : Entry) (plain : (h : LinearForm) → e.outcome ≢ Cut h) where
   abbrev after : History
   after = H ++ e ∷ []
 
@@ -33,16 +33,16 @@ module _ (R0 : Area) (W : ℕ) (H : History) (legal : IsLegal R0 W H) (parts : I
   leaf_after : (p : List Side) → IsLeafOf (outcome_at H) p → IsLeafOf (outcome_at after) p
   leaf_after p leaf = record { cell = IsCellOf_stays H (e ∷ []) p leaf.cell; no_cut = λ h g. leaf.no_cut h (cut_before p h g) }
 
-  same : (p : List Side) → IsLeafOf (outcome_at H) p → region_at R0 (outcome_at after) p ≡ region_at R0 (outcome_at H) p
-  same p leaf = region_at_stays R0 W H legal (e ∷ []) p leaf.cell
+  same : (p : List Side) → IsLeafOf (outcome_at H) p → region_at Root (outcome_at after) p ≡ region_at Root (outcome_at H) p
+  same p leaf = region_at_stays Root W H legal (e ∷ []) p leaf.cell
 
-  back : (r : Point) (p : List Side) → HoldsAt R0 (outcome_at after) r p → HoldsAt R0 (outcome_at H) r p
+  back : (r : Point) (p : List Side) → HoldsAt Root (outcome_at after) r p → HoldsAt Root (outcome_at H) r p
   back r p new = let leaf = leaf_before p new.leaf in record { leaf = leaf; point = subst (λ (R : Area). IsIn R r) (same p leaf) new.point }
 
-  forth : (r : Point) (p : List Side) → HoldsAt R0 (outcome_at H) r p → HoldsAt R0 (outcome_at after) r p
+  forth : (r : Point) (p : List Side) → HoldsAt Root (outcome_at H) r p → HoldsAt Root (outcome_at after) r p
   forth r p old = record { leaf = leaf_after p old.leaf; point = subst (λ (R : Area). IsIn R r) (sym (same p old.leaf)) old.point }
 
-  pub IsPartition-plain : IsPartition R0 (outcome_at after)
+  pub IsPartition-plain : IsPartition Root (outcome_at after)
   IsPartition-plain = record {
     covered = λ r i. let t = parts.covered r i in (t.0, forth r t.0 t.1);
     once = λ r p q a b. parts.once r p q (back r p a) (back r q b);
@@ -57,28 +57,28 @@ cut_or_plain (Outside c) = inr (λ h e. cc)
 cut_or_plain (Cut h) = inl (h, refl)
 cut_or_plain (Left x) = inr (λ h e. cc)
 
-pub IsPartition-append : (R0 : Area) (W : ℕ) (H : History) (e : Entry) → IsLegal R0 W H → IsPartition R0 (outcome_at H) → MayFollow R0 W H e → IsPartition R0 (outcome_at (H ++ e ∷ []))
-IsPartition-append R0 W H e legal parts may = elim (cut_or_plain e.outcome) [
+pub IsPartition-append : (Root : Area) (W : ℕ) (H : History) (e : Entry) → IsLegal Root W H → IsPartition Root (outcome_at H) → MayFollow Root W H e → IsPartition Root (outcome_at (H ++ e ∷ []))
+IsPartition-append Root W H e legal parts may = elim (cut_or_plain e.outcome) [
   | inl t ↦
       let same : e ≡ record { path = e.path; outcome = Cut t.0 } = ap (λ (o : Outcome). let x : Entry = record { path = e.path; outcome = o } in x) t.1 in
-      subst (λ (x : Entry). IsPartition R0 (outcome_at (H ++ x ∷ []))) (sym same) (IsPartition-cut R0 W H legal parts e.path t.0 (subst (MayFollow R0 W H) same may))
-  | inr plain ↦ IsPartition-plain R0 W H legal parts e plain
+      subst (λ (x : Entry). IsPartition Root (outcome_at (H ++ x ∷ []))) (sym same) (IsPartition-cut Root W H legal parts e.path t.0 (subst (MayFollow Root W H) same may))
+  | inr plain ↦ IsPartition-plain Root W H legal parts e plain
 ]
 
-record Kept (R0 : Area) (W : ℕ) (H : History) : Type 0 where
-  legal : IsLegal R0 W H
-  parts : IsPartition R0 (outcome_at H)
+record Kept (Root : Area) (W : ℕ) (H : History) : Type 0 where
+  legal : IsLegal Root W H
+  parts : IsPartition Root (outcome_at H)
 
 -- each legal history
-pub IsPartition-legal : (R0 : Area) (W : ℕ) (H : History) → HasPoint R0 → IsLegal R0 W H → IsPartition R0 (outcome_at H)
-IsPartition-legal R0 W H some legal =
-    let kept : Kept R0 W H = grow (MayFollow R0 W) (Kept R0 W) (record { legal = IsLegal-empty R0 W; parts = IsPartition-empty R0 some })
-    (λ G e old may. record { legal = IsLegal-append R0 W G e old.legal may; parts = IsPartition-append R0 W G e old.legal old.parts may }) H legal in
+pub IsPartition-legal : (Root : Area) (W : ℕ) (H : History) → HasPoint Root → IsLegal Root W H → IsPartition Root (outcome_at H)
+IsPartition-legal Root W H some legal =
+    let kept : Kept Root W H = grow (MayFollow Root W) (Kept Root W) (record { legal = IsLegal-empty Root W; parts = IsPartition-empty Root some })
+    (λ G e old may. record { legal = IsLegal-append Root W G e old.legal may; parts = IsPartition-append Root W G e old.legal old.parts may }) H legal in
     kept.parts
 
 -- and each of its prefixes
-pub IsLegal-first : (R0 : Area) (W : ℕ) (G K : History) → IsLegal R0 W (G ++ K) → IsLegal R0 W G
-IsLegal-first R0 W G K legal = Each-first (MayFollow R0 W) G K legal
+pub IsLegal-first : (Root : Area) (W : ℕ) (G K : History) → IsLegal Root W (G ++ K) → IsLegal Root W G
+IsLegal-first Root W G K legal = Each-first (MayFollow Root W) G K legal
 
-pub IsPartition-first : (R0 : Area) (W : ℕ) (G K : History) → HasPoint R0 → IsLegal R0 W (G ++ K) → IsPartition R0 (outcome_at G)
-IsPartition-first R0 W G K some legal = IsPartition-legal R0 W G some (IsLegal-first R0 W G K legal)
+pub IsPartition-first : (Root : Area) (W : ℕ) (G K : History) → HasPoint Root → IsLegal Root W (G ++ K) → IsPartition Root (outcome_at G)
+IsPartition-first Root W G K some legal = IsPartition-legal Root W G some (IsLegal-first Root W G K legal)

@@ -41,30 +41,30 @@ pub early : (G K : History) (p : List Side) (o : Outcome) → IsSome (outcome_at
 early G K p o some e = let t = some_is (outcome_at G p) some in t.1 ∙ sym (outcome_at_stays G K p t.0 t.1) ∙ e
 
 -- a closed row_of gets no new cell
-pub cell_back : (R0 : Area) (W : ℕ) (G K : History) (k : ℕ) → IsLegal R0 W (G ++ K) → Closed G k → (n : ℕ) (p : List Side) → length p ≤ n → length p ≤ k → IsCellOf (outcome_at (G ++ K)) p → IsCellOf (outcome_at G) p
-cell_back R0 W G K k legal closed n p l m (inl e) = inl e
-cell_back R0 W G K k legal closed zero p l m (inr c) = absurd (omega (arith, ap length c.is, length-append c.parent (c.side ∷ [])))
-cell_back R0 W G K k legal closed (suc n) p l m (inr c) =
+pub cell_back : (Root : Area) (W : ℕ) (G K : History) (k : ℕ) → IsLegal Root W (G ++ K) → Closed G k → (n : ℕ) (p : List Side) → length p ≤ n → length p ≤ k → IsCellOf (outcome_at (G ++ K)) p → IsCellOf (outcome_at G) p
+cell_back Root W G K k legal closed n p l m (inl e) = inl e
+cell_back Root W G K k legal closed zero p l m (inr c) = absurd (omega (arith, ap length c.is, length-append c.parent (c.side ∷ [])))
+cell_back Root W G K k legal closed (suc n) p l m (inr c) =
     let long : length p ≡ length c.parent + 1 = ap length c.is ∙ length-append c.parent (c.side ∷ []) in
-    let up : IsCellOf (outcome_at (G ++ K)) c.parent = cell_of_outcome R0 W (G ++ K) legal c.parent _ c.cut in
-    let old : IsCellOf (outcome_at G) c.parent = cell_back R0 W G K k legal closed n c.parent (omega arith) (omega arith) up in
+    let up : IsCellOf (outcome_at (G ++ K)) c.parent = cell_of_outcome Root W (G ++ K) legal c.parent _ c.cut in
+    let old : IsCellOf (outcome_at G) c.parent = cell_back Root W G K k legal closed n c.parent (omega arith) (omega arith) up in
     inr (record { parent = c.parent; side = c.side; form = c.form; is = c.is; cut = early G K c.parent (Cut c.form) (closed c.parent old (omega arith)) c.cut })
 
 -- an event after a closed row_of is no shorter
-pub later_one : (R0 : Area) (W : ℕ) (G A : History) (k : ℕ) (f : Entry) → IsLegal R0 W (G ++ A) → MayFollow R0 W (G ++ A) f → Closed G k → k ≤ length f.path
-later_one R0 W G A k f legal may closed =
+pub later_one : (Root : Area) (W : ℕ) (G A : History) (k : ℕ) (f : Entry) → IsLegal Root W (G ++ A) → MayFollow Root W (G ++ A) f → Closed G k → k ≤ length f.path
+later_one Root W G A k f legal may closed =
     let no : (length f.path < k) → ⊥ = λ l.
-    let old : IsCellOf (outcome_at G) f.path = cell_back R0 W G A k legal closed (length f.path) f.path (omega arith) (omega arith) may.there in
+    let old : IsCellOf (outcome_at G) f.path = cell_back Root W G A k legal closed (length f.path) f.path (omega arith) (omega arith) may.there in
     let t = some_is (outcome_at G f.path) (closed f.path old l) in
     none-some t.0 (sym may.fresh ∙ outcome_at_stays G A f.path t.0 t.1) in
     omega (arith, no)
 
-pub later_all : (R0 : Area) (W : ℕ) (G : History) (k : ℕ) → Closed G k → (A B : History) → IsLegal R0 W ((G ++ A) ++ B) → AllByRecursion (λ (f : Entry). k ≤ length f.path) B
-later_all R0 W G k closed A [] legal = tt
-later_all R0 W G k closed A (f ∷ B) legal =
+pub later_all : (Root : Area) (W : ℕ) (G : History) (k : ℕ) → Closed G k → (A B : History) → IsLegal Root W ((G ++ A) ++ B) → AllByRecursion (λ (f : Entry). k ≤ length f.path) B
+later_all Root W G k closed A [] legal = tt
+later_all Root W G k closed A (f ∷ B) legal =
     let same : (G ++ A) ++ f ∷ B ≡ (G ++ (A ++ f ∷ [])) ++ B = simp append_assoc in (
-      later_one R0 W G A k f (IsLegal-first R0 W (G ++ A) (f ∷ B) legal) (event_follows (MayFollow R0 W) (G ++ A) B f legal) closed,
-      later_all R0 W G k closed (A ++ f ∷ []) B (subst (IsLegal R0 W) same legal),
+      later_one Root W G A k f (IsLegal-first Root W (G ++ A) (f ∷ B) legal) (event_follows (MayFollow Root W) (G ++ A) B f legal) closed,
+      later_all Root W G k closed (A ++ f ∷ []) B (subst (IsLegal Root W) same legal),
     )
 
 -- where a test fails at all parts of events, it counts none
@@ -103,28 +103,28 @@ pub last_same : (L : Budget) (G H : History) (k : ℕ) → upto G k ≡ upto H k
 last_same L G H k u r = ap₂ (λ (x y : ℕ). if k == L.depth then Some Depth else (if nat_lt L.cells (x + 2 * y) then Some Cells else None)) u r
 
 -- an event that goes by the plan of the events before it goes by the plan of the whole
-pub plan_stays : (R0 : Area) (L : Budget) (G K : History) (e : Entry) → IsLegal R0 L.wits (G ++ K) → Closed G (length e.path) → IsCellOf (outcome_at G) e.path → IsByPlan R0 L G e → IsByPlan R0 L (G ++ K) e
-plan_stays R0 L G K e legal closed cell (inl m) = inl m
-plan_stays R0 L G K e legal closed cell (inr r) =
-    let all = later_all R0 L.wits G (length e.path) closed [] K (subst (λ (u : History). IsLegal R0 L.wits (u ++ K)) (sym (append-nil G)) legal) in
+pub plan_stays : (Root : Area) (L : Budget) (G K : History) (e : Entry) → IsLegal Root L.wits (G ++ K) → Closed G (length e.path) → IsCellOf (outcome_at G) e.path → IsByPlan Root L G e → IsByPlan Root L (G ++ K) e
+plan_stays Root L G K e legal closed cell (inl m) = inl m
+plan_stays Root L G K e legal closed cell (inr r) =
+    let all = later_all Root L.wits G (length e.path) closed [] K (subst (λ (u : History). IsLegal Root L.wits (u ++ K)) (sym (append-nil G)) legal) in
     let last : last_in L G (length e.path) ≡ last_in L (G ++ K) (length e.path) = last_same L G (G ++ K) (length e.path) (sym (upto_stays G K (length e.path) all)) (sym (row_stays G K (length e.path) all)) in
-    let cell_same : region_at R0 (outcome_at G) e.path ≡ region_at R0 (outcome_at (G ++ K)) e.path = sym (region_at_stays R0 L.wits G (IsLegal-first R0 L.wits G K legal) K e.path cell) in
+    let cell_same : region_at Root (outcome_at G) e.path ≡ region_at Root (outcome_at (G ++ K)) e.path = sym (region_at_stays Root L.wits G (IsLegal-first Root L.wits G K legal) K e.path cell) in
     inr (subst (λ (R : Area). Refines R (last_in L (G ++ K) (length e.path)) L.wits e.outcome) cell_same
-    (subst (λ (x : Option Last). Refines (region_at R0 (outcome_at G) e.path) x L.wits e.outcome) last r))
+    (subst (λ (x : Option Last). Refines (region_at Root (outcome_at G) e.path) x L.wits e.outcome) last r))
 
-module _ (R0 : Area) (L : Budget) (H : History) (planned : IsPlanned R0 L H) where
+module _ (Root : Area) (L : Budget) (H : History) (planned : IsPlanned Root L H) where
   joined : (k : ℕ) → take k H ++ drop k H ≡ H
   joined k = take-append-drop k H
 
-  legal_at : (k : ℕ) → IsLegal R0 L.wits (take k H ++ drop k H)
-  legal_at k = subst (IsLegal R0 L.wits) (sym (joined k)) planned.legal
+  legal_at : (k : ℕ) → IsLegal Root L.wits (take k H ++ drop k H)
+  legal_at k = subst (IsLegal Root L.wits) (sym (joined k)) planned.legal
 
-  by_plan : (k : ℕ) (e : Entry) → slice_get H k ≡ Some e → IsByPlan R0 L H e
+  by_plan : (k : ℕ) (e : Entry) → slice_get H k ≡ Some e → IsByPlan Root L H e
   by_plan k e g =
       let may = planned.each k e g in
-      subst (λ (u : History). IsByPlan R0 L u e) (joined k) (plan_stays R0 L (take k H) (drop k H) e (legal_at k) may.rows_done (planned.legal k e g).there may.by_plan)
+      subst (λ (u : History). IsByPlan Root L u e) (joined k) (plan_stays Root L (take k H) (drop k H) e (legal_at k) may.rows_done (planned.legal k e g).there may.by_plan)
 
-  pub IsWhole-planned : ((p : List Side) → IsCellOf (outcome_at H) p → IsSome (outcome_at H p)) → IsWhole R0 L H
+  pub IsWhole-planned : ((p : List Side) → IsCellOf (outcome_at H) p → IsSome (outcome_at H p)) → IsWhole Root L H
   IsWhole-planned each_cell = record {
     legal = planned.legal;
     each_cell = each_cell;
@@ -135,9 +135,9 @@ module _ (R0 : Area) (L : Budget) (H : History) (planned : IsPlanned R0 L H) whe
   pub IsInRounds-planned : IsInRounds H
   IsInRounds-planned i j d l m =
       let e : Entry = get_or H i d in
-      let may : MayComeNext R0 L (take i H) e = planned.each i e (slice_get-get_or H i d (omega arith)) in
+      let may : MayComeNext Root L (take i H) e = planned.each i e (slice_get-get_or H i d (omega arith)) in
       let G : History = take i H in
-      let all : AllByRecursion (λ (f : Entry). length e.path ≤ length f.path) (drop i H) = later_all R0 L.wits G (length e.path) may.rows_done [] (drop i H) (subst (λ (u : History). IsLegal R0 L.wits (u ++ drop i H)) (sym (append-nil G)) (legal_at i)) in
+      let all : AllByRecursion (λ (f : Entry). length e.path ≤ length f.path) (drop i H) = later_all Root L.wits G (length e.path) may.rows_done [] (drop i H) (subst (λ (u : History). IsLegal Root L.wits (u ++ drop i H)) (sym (append-nil G)) (legal_at i)) in
       let at : length e.path ≤ length (get_or (drop i H) (j - i) d).path =
       All-get_or (λ (f : Entry). length e.path ≤ length f.path) (drop i H) (j - i) d (omega (arith, length-drop i H)) (All-from_recursion (λ (f : Entry). length e.path ≤ length f.path) (drop i H) all) in
       let place : i + (j - i) ≡ j = omega arith in

@@ -81,12 +81,12 @@ or_none : (x : Option Outcome) → or_else x None ≡ x
 or_none None = refl
 or_none (Some o) = refl
 
-pub Stands-empty : (R0 : Area) → StandsFor R0 [] (record { region = R0; entries = map.empty })
-Stands-empty R0 = record { region = refl; entries = λ p. map.get-empty (slice_cmp side_cmp) p; count = map.len-empty (slice_cmp side_cmp) Outcome }
+pub Stands-empty : (Root : Area) → StandsFor Root [] (record { region = Root; entries = map.empty })
+Stands-empty Root = record { region = refl; entries = λ p. map.get-empty (slice_cmp side_cmp) p; count = map.len-empty (slice_cmp side_cmp) Outcome }
 
 -- a snapshot with one entry_at more stands for one event more
-pub Stands-append : (R0 : Area) (H : History) (v : Snapshot) (e : Entry) → StandsFor R0 H v → outcome_at H e.path ≡ None → StandsFor R0 (H ++ e ∷ []) (record { region = v.region; entries = map.insert v.entries e.path e.outcome })
-Stands-append R0 H v e old fresh = record { region = old.region; entries = entries; count = count }
+pub Stands-append : (Root : Area) (H : History) (v : Snapshot) (e : Entry) → StandsFor Root H v → outcome_at H e.path ≡ None → StandsFor Root (H ++ e ∷ []) (record { region = v.region; entries = map.insert v.entries e.path e.outcome })
+Stands-append Root H v e old fresh = record { region = old.region; entries = entries; count = count }
   where
     by_case : (b : Bool) (x : Option Outcome) → (b ≡ true → x ≡ None) → cond b (Some e.outcome) x ≡ or_else x (cond b (Some e.outcome) None)
     by_case true x f = ap (λ (y : Option Outcome). or_else y (Some e.outcome)) (sym (f refl))
@@ -107,18 +107,18 @@ Stands-append R0 H v e old fresh = record { region = old.region; entries = entri
         omega (arith, a, b, length-append H (e ∷ []))
 
 -- two snapshots of histories with the same outcomes are equal
-pub Stands-once : (R0 : Area) (G H : History) (v w : Snapshot) → StandsFor R0 G v → StandsFor R0 H w → ((p : List Side) → outcome_at G p ≡ outcome_at H p) → v ≡ w
-Stands-once R0 G H v w a b same =
+pub Stands-once : (Root : Area) (G H : History) (v w : Snapshot) → StandsFor Root G v → StandsFor Root H w → ((p : List Side) → outcome_at G p ≡ outcome_at H p) → v ≡ w
+Stands-once Root G H v w a b same =
     let m : v.entries ≡ w.entries = map.same_map path_total (map.slice_cmp-IsAntisymmetric side_same) v.entries w.entries (λ p. a.entries p ∙ same p ∙ sym (b.entries p)) in
     let r : v.region ≡ w.region = a.region ∙ sym b.region in
     λ i. record { region = r i; entries = m i }
 
-record Standing (R0 : Area) (H : History) : Type 0 where
+record Standing (Root : Area) (H : History) : Type 0 where
   v : Snapshot
-  stands : StandsFor R0 H v
+  stands : StandsFor Root H v
 
-pub Stands-some : (R0 : Area) (W : ℕ) (H : History) → IsLegal R0 W H → (v : Snapshot) × StandsFor R0 H v
-Stands-some R0 W H legal =
-    let s : Standing R0 H = grow (MayFollow R0 W) (Standing R0) (record { v = record { region = R0; entries = map.empty }; stands = Stands-empty R0 })
-    (λ G e old may. record { v = record { region = old.v.region; entries = map.insert old.v.entries e.path e.outcome }; stands = Stands-append R0 G old.v e old.stands may.fresh }) H legal in
+pub Stands-some : (Root : Area) (W : ℕ) (H : History) → IsLegal Root W H → (v : Snapshot) × StandsFor Root H v
+Stands-some Root W H legal =
+    let s : Standing Root H = grow (MayFollow Root W) (Standing Root) (record { v = record { region = Root; entries = map.empty }; stands = Stands-empty Root })
+    (λ G e old may. record { v = record { region = old.v.region; entries = map.insert old.v.entries e.path e.outcome }; stands = Stands-append Root G old.v e old.stands may.fresh }) H legal in
     (s.v, s.stands)

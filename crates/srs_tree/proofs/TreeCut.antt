@@ -46,7 +46,7 @@ same_parent (x ∷ p) [] s t e = absurd (omega (arith, ap length e, length-appen
 same_parent (x ∷ p) (y ∷ q) s t e =
     let a : x ≡ y = cc in let b : p ++ s ∷ [] ≡ q ++ t ∷ [] = cc in ap₂ (λ (u : Side) (v : List Side). u ∷ v) a (same_parent p q s t b)
 
-module _ (R0 : Area) (W : ℕ) (H : History) (legal : IsLegal R0 W H) (parts : IsPartition R0 (outcome_at H)) (p0 : List Side) (h : LinearForm) (may : MayFollow R0 W H (record { path = p0; outcome = Cut h })) where
+module _ (Root : Area) (W : ℕ) (H : History) (legal : IsLegal Root W H) (parts : IsPartition Root (outcome_at H)) (p0 : List Side) (h : LinearForm) (may : MayFollow Root W H (record { path = p0; outcome = Cut h })) where
   abbrev after : History
   after = H ++ record { path = p0; outcome = Cut h } ∷ []
 
@@ -59,7 +59,7 @@ module _ (R0 : Area) (W : ℕ) (H : History) (legal : IsLegal R0 W H) (parts : I
 
   -- a part of p0 has no outcome
   part_fresh : (s : Side) (o : Outcome) → outcome_at H (p0 ++ s ∷ []) ≡ Some o → ⊥
-  part_fresh s o e = elim (cell_of_outcome R0 W H legal (p0 ++ s ∷ []) o e) [
+  part_fresh s o e = elim (cell_of_outcome Root W H legal (p0 ++ s ∷ []) o e) [
     | inl f ↦ absurd (omega (arith, ap length f, length-append p0 (s ∷ [])))
     | inr c ↦ let g : p0 ≡ c.parent = same_parent p0 c.parent s c.side c.is in
         let k : outcome_at H p0 ≡ Some (Cut c.form) = ap (outcome_at H) g ∙ c.cut in
@@ -105,63 +105,63 @@ module _ (R0 : Area) (W : ℕ) (H : History) (legal : IsLegal R0 W H) (parts : I
     no_cut = λ g e. elim (after_cases (p0 ++ s ∷ []) g e) [ inl k ↦ part_fresh s (Cut g) k | inr q ↦ absurd (omega (arith, ap length q, length-append p0 (s ∷ []))) ];
   }
 
-  part_region : (s : Side) → region_at R0 (outcome_at after) (p0 ++ s ∷ []) ≡ region_at R0 (outcome_at H) p0 ++ half_on s h ∷ []
-  part_region s = region_at-snoc R0 (outcome_at after) p0 s ∙ ap₂ (λ (x : Area) (o : Option Outcome). x ++ cut_half o s) (region_at_stays R0 W H legal _ p0 may.there) cut_there
+  part_region : (s : Side) → region_at Root (outcome_at after) (p0 ++ s ∷ []) ≡ region_at Root (outcome_at H) p0 ++ half_on s h ∷ []
+  part_region s = region_at-snoc Root (outcome_at after) p0 s ∙ ap₂ (λ (x : Area) (o : Option Outcome). x ++ cut_half o s) (region_at_stays Root W H legal _ p0 may.there) cut_there
 
-  part_holds : (r : Point) (s : Side) → HoldsAt R0 (outcome_at H) r p0 → Sign s (value h r) → HoldsAt R0 (outcome_at after) r (p0 ++ s ∷ [])
+  part_holds : (r : Point) (s : Side) → HoldsAt Root (outcome_at H) r p0 → Sign s (value h r) → HoldsAt Root (outcome_at after) r (p0 ++ s ∷ [])
   part_holds r s old k = record {
     leaf = part_leaf s;
-    point = subst (λ (R : Area). IsIn R r) (sym (part_region s)) (IsIn-push (region_at R0 (outcome_at H) p0) (half_on s h) r old.point (on_side s h r k));
+    point = subst (λ (R : Area). IsIn R r) (sym (part_region s)) (IsIn-push (region_at Root (outcome_at H) p0) (half_on s h) r old.point (on_side s h r k));
   }
 
-  part_point : (r : Point) (s : Side) → HoldsAt R0 (outcome_at after) r (p0 ++ s ∷ []) → HoldsAt R0 (outcome_at H) r p0 × Sign s (value h r)
+  part_point : (r : Point) (s : Side) → HoldsAt Root (outcome_at after) r (p0 ++ s ∷ []) → HoldsAt Root (outcome_at H) r p0 × Sign s (value h r)
   part_point r s new =
-      let i : IsIn (region_at R0 (outcome_at H) p0 ++ half_on s h ∷ []) r = subst (λ (R : Area). IsIn R r) (part_region s) new.point in
-      (record { leaf = old_leaf; point = IsIn-front _ (half_on s h) r i }, sign_of s h r (IsIn-last (region_at R0 (outcome_at H) p0) (half_on s h) r i))
+      let i : IsIn (region_at Root (outcome_at H) p0 ++ half_on s h ∷ []) r = subst (λ (R : Area). IsIn R r) (part_region s) new.point in
+      (record { leaf = old_leaf; point = IsIn-front _ (half_on s h) r i }, sign_of s h r (IsIn-last (region_at Root (outcome_at H) p0) (half_on s h) r i))
 
-  back : (r : Point) (p : List Side) → IsLeafOf (outcome_at H) p → HoldsAt R0 (outcome_at after) r p → HoldsAt R0 (outcome_at H) r p
-  back r p leaf new = record { leaf = leaf; point = subst (λ (R : Area). IsIn R r) (region_at_stays R0 W H legal _ p leaf.cell) new.point }
+  back : (r : Point) (p : List Side) → IsLeafOf (outcome_at H) p → HoldsAt Root (outcome_at after) r p → HoldsAt Root (outcome_at H) r p
+  back r p leaf new = record { leaf = leaf; point = subst (λ (R : Area). IsIn R r) (region_at_stays Root W H legal _ p leaf.cell) new.point }
 
-  forth : (r : Point) (p : List Side) → p ≢ p0 → HoldsAt R0 (outcome_at H) r p → HoldsAt R0 (outcome_at after) r p
-  forth r p other old = record { leaf = old_stays p old.leaf other; point = subst (λ (R : Area). IsIn R r) (sym (region_at_stays R0 W H legal _ p old.leaf.cell)) old.point }
+  forth : (r : Point) (p : List Side) → p ≢ p0 → HoldsAt Root (outcome_at H) r p → HoldsAt Root (outcome_at after) r p
+  forth r p other old = record { leaf = old_stays p old.leaf other; point = subst (λ (R : Area). IsIn R r) (sym (region_at_stays Root W H legal _ p old.leaf.cell)) old.point }
 
-  covered : (r : Point) → IsIn R0 r → (p : List Side) × HoldsAt R0 (outcome_at after) r p
+  covered : (r : Point) → IsIn Root r → (p : List Side) × HoldsAt Root (outcome_at after) r p
   covered r i =
       let t = parts.covered r i in
-      elim (path_eq p0 t.0) as (λ b. path_eq p0 t.0 ≡ b → (p : List Side) × HoldsAt R0 (outcome_at after) r p) [
-        | true ↦ λ m. let s = some_sign (value h r) in (p0 ++ s.0 ∷ [], part_holds r s.0 (subst (HoldsAt R0 (outcome_at H) r) (sym (same_path p0 t.0 m)) t.1) s.1)
+      elim (path_eq p0 t.0) as (λ b. path_eq p0 t.0 ≡ b → (p : List Side) × HoldsAt Root (outcome_at after) r p) [
+        | true ↦ λ m. let s = some_sign (value h r) in (p0 ++ s.0 ∷ [], part_holds r s.0 (subst (HoldsAt Root (outcome_at H) r) (sym (same_path p0 t.0 m)) t.1) s.1)
         | false ↦ λ m. (t.0, forth r t.0 (λ e. true≢false (sym (path_eq_same p0) ∙ ap (path_eq p0) (sym e) ∙ m)) t.1)
       ] refl
 
-  once : (r : Point) (p q : List Side) → HoldsAt R0 (outcome_at after) r p → HoldsAt R0 (outcome_at after) r q → p ≡ q
+  once : (r : Point) (p q : List Side) → HoldsAt Root (outcome_at after) r p → HoldsAt Root (outcome_at after) r q → p ≡ q
   once r p q a b = elim (leaf_after p a.leaf) [
     | inl u ↦ elim (leaf_after q b.leaf) [
       | inl v ↦ parts.once r p q (back r p u.0 a) (back r q v.0 b)
-      | inr v ↦ absurd (u.1 (parts.once r p p0 (back r p u.0 a) (part_point r v.0 (subst (HoldsAt R0 (outcome_at after) r) v.1 b)).0))
+      | inr v ↦ absurd (u.1 (parts.once r p p0 (back r p u.0 a) (part_point r v.0 (subst (HoldsAt Root (outcome_at after) r) v.1 b)).0))
     ]
     | inr u ↦ elim (leaf_after q b.leaf) [
-      | inl v ↦ absurd (v.1 (parts.once r q p0 (back r q v.0 b) (part_point r u.0 (subst (HoldsAt R0 (outcome_at after) r) u.1 a)).0))
-      | inr v ↦ u.1 ∙ ap (λ (s : Side). p0 ++ s ∷ []) (one_sign u.0 v.0 (value h r) (part_point r u.0 (subst (HoldsAt R0 (outcome_at after) r) u.1 a)).1 (part_point r v.0 (subst (HoldsAt R0 (outcome_at after) r) v.1 b)).1) ∙ sym v.1
+      | inl v ↦ absurd (v.1 (parts.once r q p0 (back r q v.0 b) (part_point r u.0 (subst (HoldsAt Root (outcome_at after) r) u.1 a)).0))
+      | inr v ↦ u.1 ∙ ap (λ (s : Side). p0 ++ s ∷ []) (one_sign u.0 v.0 (value h r) (part_point r u.0 (subst (HoldsAt Root (outcome_at after) r) u.1 a)).1 (part_point r v.0 (subst (HoldsAt Root (outcome_at after) r) v.1 b)).1) ∙ sym v.1
     ]
   ]
 
-  side_point : (s : Side) → (r : Point) × IsIn (region_at R0 (outcome_at H) p0) r × Sign s (value h r)
+  side_point : (s : Side) → (r : Point) × IsIn (region_at Root (outcome_at H) p0) r × Sign s (value h r)
   side_point Ge = may.sound.not_below
   side_point Lt = may.sound.below
 
-  pointed : (p : List Side) → IsLeafOf (outcome_at after) p → HasPoint (region_at R0 (outcome_at after) p)
+  pointed : (p : List Side) → IsLeafOf (outcome_at after) p → HasPoint (region_at Root (outcome_at after) p)
   pointed p leaf = elim (leaf_after p leaf) [
-    | inl u ↦ subst HasPoint (sym (region_at_stays R0 W H legal _ p u.0.cell)) (parts.pointed p u.0)
+    | inl u ↦ subst HasPoint (sym (region_at_stays Root W H legal _ p u.0.cell)) (parts.pointed p u.0)
     | inr u ↦ let t = side_point u.0 in
-        (t.0, subst (λ (q : List Side). IsIn (region_at R0 (outcome_at after) q) t.0) (sym u.1) (part_holds t.0 u.0 (record { leaf = old_leaf; point = t.1 }) t.2).point)
+        (t.0, subst (λ (q : List Side). IsIn (region_at Root (outcome_at after) q) t.0) (sym u.1) (part_holds t.0 u.0 (record { leaf = old_leaf; point = t.1 }) t.2).point)
   ]
 
-  within : (r : Point) (p : List Side) → HoldsAt R0 (outcome_at after) r p → IsIn R0 r
+  within : (r : Point) (p : List Side) → HoldsAt Root (outcome_at after) r p → IsIn Root r
   within r p a = elim (leaf_after p a.leaf) [
     | inl u ↦ parts.within r p (back r p u.0 a)
-    | inr u ↦ parts.within r p0 (part_point r u.0 (subst (HoldsAt R0 (outcome_at after) r) u.1 a)).0
+    | inr u ↦ parts.within r p0 (part_point r u.0 (subst (HoldsAt Root (outcome_at after) r) u.1 a)).0
   ]
 
-  -- the leaves still partition R0
-  pub IsPartition-cut : IsPartition R0 (outcome_at after)
+  -- the leaves still partition Root
+  pub IsPartition-cut : IsPartition Root (outcome_at after)
   IsPartition-cut = record { covered = covered; once = once; pointed = pointed; within = within }

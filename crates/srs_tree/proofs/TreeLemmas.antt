@@ -27,23 +27,23 @@ event_of (x ∷ H) p o e =
     ] refl e
 
 -- in a legal history the path of each outcome is a cell
-pub cell_of_outcome : (R0 : Area) (W : ℕ) (H : History) → IsLegal R0 W H → (p : List Side) (o : Outcome) → outcome_at H p ≡ Some o → IsCellOf (outcome_at H) p
-cell_of_outcome R0 W H legal p o e =
+pub cell_of_outcome : (Root : Area) (W : ℕ) (H : History) → IsLegal Root W H → (p : List Side) (o : Outcome) → outcome_at H p ≡ Some o → IsCellOf (outcome_at H) p
+cell_of_outcome Root W H legal p o e =
     let t = event_of H p o e in
     let c : IsCellOf (outcome_at (take t.place H)) p = subst (IsCellOf (outcome_at (take t.place H))) t.path (legal t.place t.event t.is).there in
     subst (λ (K : History). IsCellOf (outcome_at K) p) (take-append-drop t.place H) (IsCellOf_stays (take t.place H) (drop t.place H) p c)
 
-module _ (R0 : Area) (W : ℕ) (H : History) (legal : IsLegal R0 W H) where
-  stays_by : (K : History) (n : ℕ) (p : List Side) → length p ≤ n → IsCellOf (outcome_at H) p → region_at R0 (outcome_at (H ++ K)) p ≡ region_at R0 (outcome_at H) p
-  stays_by K n p h (inl e) = ap (region_at R0 (outcome_at (H ++ K))) e ∙ sym (ap (region_at R0 (outcome_at H)) e)
+module _ (Root : Area) (W : ℕ) (H : History) (legal : IsLegal Root W H) where
+  stays_by : (K : History) (n : ℕ) (p : List Side) → length p ≤ n → IsCellOf (outcome_at H) p → region_at Root (outcome_at (H ++ K)) p ≡ region_at Root (outcome_at H) p
+  stays_by K n p h (inl e) = ap (region_at Root (outcome_at (H ++ K))) e ∙ sym (ap (region_at Root (outcome_at H)) e)
   stays_by K zero p h (inr c) = absurd (omega (arith, ap length c.is, length-append c.parent (c.side ∷ [])))
   stays_by K (suc n) p h (inr c) =
-      let up : IsCellOf (outcome_at H) c.parent = cell_of_outcome R0 W H legal c.parent _ c.cut in
-      let rest : region_at R0 (outcome_at (H ++ K)) c.parent ≡ region_at R0 (outcome_at H) c.parent = stays_by K n c.parent (omega (arith, ap length c.is, length-append c.parent (c.side ∷ []))) up in
-      ap (region_at R0 (outcome_at (H ++ K))) c.is ∙ region_at-snoc R0 (outcome_at (H ++ K)) c.parent c.side
+      let up : IsCellOf (outcome_at H) c.parent = cell_of_outcome Root W H legal c.parent _ c.cut in
+      let rest : region_at Root (outcome_at (H ++ K)) c.parent ≡ region_at Root (outcome_at H) c.parent = stays_by K n c.parent (omega (arith, ap length c.is, length-append c.parent (c.side ∷ []))) up in
+      ap (region_at Root (outcome_at (H ++ K))) c.is ∙ region_at-snoc Root (outcome_at (H ++ K)) c.parent c.side
       ∙ ap₂ (λ (x : Area) (o : Option Outcome). x ++ cut_half o c.side) rest (outcome_at_stays H K c.parent _ c.cut ∙ sym c.cut)
-      ∙ sym (region_at-snoc R0 (outcome_at H) c.parent c.side) ∙ sym (ap (region_at R0 (outcome_at H)) c.is)
+      ∙ sym (region_at-snoc Root (outcome_at H) c.parent c.side) ∙ sym (ap (region_at Root (outcome_at H)) c.is)
 
   -- a cell's region stays the same when events are appended
-  pub region_at_stays : (K : History) (p : List Side) → IsCellOf (outcome_at H) p → region_at R0 (outcome_at (H ++ K)) p ≡ region_at R0 (outcome_at H) p
+  pub region_at_stays : (K : History) (p : List Side) → IsCellOf (outcome_at H) p → region_at Root (outcome_at (H ++ K)) p ≡ region_at Root (outcome_at H) p
   region_at_stays K p c = stays_by K (length p) p (omega arith) c

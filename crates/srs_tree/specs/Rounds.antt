@@ -40,21 +40,21 @@ last_in L H k = last_of L k (upto H k) (row_of H k)
 
 -- the event has no memory, or the outcome of its cell, where H is the history whose cells are counted
 abbrev pub IsByPlan : Area → Budget → History → Entry → Type 0
-IsByPlan R0 L H e = (e.outcome ≡ Left Memory) ⊎ Refines (region_at R0 (outcome_at H) e.path) (last_in L H (length e.path)) L.wits e.outcome
+IsByPlan Root L H e = (e.outcome ≡ Left Memory) ⊎ Refines (region_at Root (outcome_at H) e.path) (last_in L H (length e.path)) L.wits e.outcome
 
 -- each cell has its event, by the plan
-pub record IsWhole (R0 : Area) (L : Budget) (H : History) : Type 0 where
-  pub legal : IsLegal R0 L.wits H
+pub record IsWhole (Root : Area) (L : Budget) (H : History) : Type 0 where
+  pub legal : IsLegal Root L.wits H
   pub each_cell : (path : List Side) → IsCellOf (outcome_at H) path → IsSome (outcome_at H path)
-  pub each_event : (e : Entry) → Contains H e → IsByPlan R0 L H e
+  pub each_event : (e : Entry) → Contains H e → IsByPlan Root L H e
 
 -- along H the lengths of the paths never fall
 abbrev pub IsInRounds : History → Type 0
 IsInRounds H = IsNonDecreasingBy (λ e. length e.path) H
 
 -- H has the entries of the plan
-pub record IsPlan (R0 : Area) (L : Budget) (H : History) : Type 0 where
-  pub whole : IsWhole R0 L H
+pub record IsPlan (Root : Area) (L : Budget) (H : History) : Type 0 where
+  pub whole : IsWhole Root L H
   pub no_memory : (e : Entry) → Contains H e → e.outcome ≢ Left Memory
 
 -- two histories have the same entries
@@ -62,21 +62,21 @@ abbrev pub HaveSameEntries : History → History → Type 0
 HaveSameEntries G H = (path : List Side) → outcome_at G path ≡ outcome_at H path
 
 -- e may come next after G by the plan: each cell on a shorter path has its event
-pub record MayComeNext (R0 : Area) (L : Budget) (G : History) (e : Entry) : Type 0 where
+pub record MayComeNext (Root : Area) (L : Budget) (G : History) (e : Entry) : Type 0 where
   pub rows_done : (path : List Side) → IsCellOf (outcome_at G) path → length path < length e.path → IsSome (outcome_at G path)
-  pub by_plan : IsByPlan R0 L G e
+  pub by_plan : IsByPlan Root L G e
 
 -- each event comes by the plan
-pub record IsPlanned (R0 : Area) (L : Budget) (H : History) : Type 0 where
-  pub legal : IsLegal R0 L.wits H
-  pub each : (k : ℕ) (e : Entry) → slice_get H k ≡ Some e → MayComeNext R0 L (take k H) e
+pub record IsPlanned (Root : Area) (L : Budget) (H : History) : Type 0 where
+  pub legal : IsLegal Root L.wits H
+  pub each : (k : ℕ) (e : Entry) → slice_get H k ≡ Some e → MayComeNext Root L (take k H) e
 
 -- the statement that there is one plan at most
 abbrev pub PlansAreSame : Type 0
-PlansAreSame = (R0 : Area) (L : Budget) (G H : History) → IsPlan R0 L G → IsPlan R0 L H → HaveSameEntries G H
+PlansAreSame = (Root : Area) (L : Budget) (G H : History) → IsPlan Root L G → IsPlan Root L H → HaveSameEntries G H
 
 -- the statement that a planned history in which each cell has an event is whole, and in rounds
 abbrev pub PlannedIsWhole : Type 0
 PlannedIsWhole =
-    (R0 : Area) (L : Budget) (H : History) → IsPlanned R0 L H
-    → ((path : List Side) → IsCellOf (outcome_at H) path → IsSome (outcome_at H path)) → IsWhole R0 L H × IsInRounds H
+    (Root : Area) (L : Budget) (H : History) → IsPlanned Root L H
+    → ((path : List Side) → IsCellOf (outcome_at H) path → IsSome (outcome_at H path)) → IsWhole Root L H × IsInRounds H

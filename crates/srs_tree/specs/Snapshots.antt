@@ -48,20 +48,20 @@ tree_of v = map.get v.entries
 abbrev pub with_entry : Snapshot → List Side → Outcome → Snapshot
 with_entry v path o = record { region = v.region; entries = map.insert v.entries path o }
 
--- v has the region R0 and exactly the entries of H
-pub record StandsFor (R0 : Area) (H : History) (v : Snapshot) : Type 0 where
-  pub region : v.region ≡ R0
+-- v has the region Root and exactly the entries of H
+pub record StandsFor (Root : Area) (H : History) (v : Snapshot) : Type 0 where
+  pub region : v.region ≡ Root
   pub entries : (path : List Side) → tree_of v path ≡ outcome_at H path
   pub count : map.len v.entries ≡ length H
 
 -- the statement that exactly one snapshot stands for a legal history
 abbrev pub SnapshotsStand : Type 0
 SnapshotsStand =
-    (R0 : Area) (W : ℕ) (H : History) → IsLegal R0 W H
-    → (v : Snapshot) × StandsFor R0 H v × ((w : Snapshot) → StandsFor R0 H w → w ≡ v)
+    (Root : Area) (W : ℕ) (H : History) → IsLegal Root W H
+    → (v : Snapshot) × StandsFor Root H v × ((w : Snapshot) → StandsFor Root H w → w ≡ v)
 
 -- the statement that the snapshot with one entry more stands for the history with one event more
 abbrev pub SnapshotsGrow : Type 0
 SnapshotsGrow =
-    (R0 : Area) (H : History) (v : Snapshot) (e : Entry) → StandsFor R0 H v → outcome_at H e.path ≡ None
-    → StandsFor R0 (H ++ e ∷ []) (with_entry v e.path e.outcome)
+    (Root : Area) (H : History) (v : Snapshot) (e : Entry) → StandsFor Root H v → outcome_at H e.path ≡ None
+    → StandsFor Root (H ++ e ∷ []) (with_entry v e.path e.outcome)

@@ -73,16 +73,16 @@ halves_along T above (s ∷ rest) = cut_half (T above) s ++ halves_along T (abov
 
 -- the root region with these halves appended
 abbrev pub region_at : Area → Tree → List Side → Area
-region_at R0 T path = R0 ++ halves_along T [] path
+region_at Root T path = Root ++ halves_along T [] path
 
 -- the leaf at the path holds the point r
-pub record HoldsAt (R0 : Area) (T : Tree) (r : Point) (path : List Side) : Type 0 where
+pub record HoldsAt (Root : Area) (T : Tree) (r : Point) (path : List Side) : Type 0 where
   pub leaf : IsLeafOf T path
-  pub point : IsIn (region_at R0 T path) r
+  pub point : IsIn (region_at Root T path) r
 
--- each point of R0 is in exactly one leaf, and each leaf has a point, and none outside R0
-pub record IsPartition (R0 : Area) (T : Tree) : Type 0 where
-  pub covered : (r : Point) → IsIn R0 r → (path : List Side) × HoldsAt R0 T r path
-  pub once : (r : Point) (p q : List Side) → HoldsAt R0 T r p → HoldsAt R0 T r q → p ≡ q
-  pub pointed : (path : List Side) → IsLeafOf T path → HasPoint (region_at R0 T path)
-  pub within : (r : Point) (path : List Side) → HoldsAt R0 T r path → IsIn R0 r
+-- each point of Root is in exactly one leaf, and each leaf has a point, and none outside Root
+pub record IsPartition (Root : Area) (T : Tree) : Type 0 where
+  pub covered : (r : Point) → IsIn Root r → (path : List Side) × HoldsAt Root T r path
+  pub once : (r : Point) (p q : List Side) → HoldsAt Root T r p → HoldsAt Root T r q → p ≡ q
+  pub pointed : (path : List Side) → IsLeafOf T path → HasPoint (region_at Root T path)
+  pub within : (r : Point) (path : List Side) → HoldsAt Root T r path → IsIn Root r

@@ -10,9 +10,9 @@ pub returns : goal.returns
 returns c = record {
   partition = IsPartition-legal;
   one_plan = one_plan;
-  stands = λ R0 W H legal.
-      let t = Stands-some R0 W H legal in
-      (t.0, t.1, λ w s. Stands-once R0 H H w t.0 s t.1 (λ p. refl));
+  stands = λ Root W H legal.
+      let t = Stands-some Root W H legal in
+      (t.0, t.1, λ w s. Stands-once Root H H w t.0 s t.1 (λ p. refl));
   grows = Stands-append;
-  whole = λ R0 L H planned each. (IsWhole-planned R0 L H planned each, IsInRounds-planned R0 L H planned);
+  whole = λ Root L H planned each. (IsWhole-planned Root L H planned each, IsInRounds-planned Root L H planned);
 }
