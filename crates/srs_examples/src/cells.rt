@@ -15,7 +15,11 @@ const TRIANGLE: [(i64, i64, i64); 3] = [(0, 0, 1), (1, 0, 1), (0, 1, 1)];
 pub const CORNER: [(i64, i64, i64); 3] = [(0, 0, 1), (1, 0, 8), (0, 1, 8)];
 
 // The polygon's region with these halves appended.
-fn region_of(alloc: Global, vertices: &[Vertex], halves: &[(i64, i64, i64, Kind)]) -> Result<Option<Region>, Fail> {
+fn region_of(
+    alloc: Global,
+    vertices: &[Vertex],
+    halves: &[(i64, i64, i64, Kind)],
+) -> Result<Option<Region>, Fail> {
     let Ok(mut region) = polygon(alloc, vertices) else {
         return Ok(None);
     };
@@ -46,7 +50,11 @@ pub fn cell_of(
 }
 
 // A point of the region, where it has one.
-fn sample_of(alloc: Global, kind: Kind, halves: &[(i64, i64, i64, Kind)]) -> Result<Option<(i128, i128, i128)>, Fail> {
+fn sample_of(
+    alloc: Global,
+    kind: Kind,
+    halves: &[(i64, i64, i64, Kind)],
+) -> Result<Option<(i128, i128, i128)>, Fail> {
     match cell_of(alloc, &TRIANGLE, kind, halves)? {
         Some(cell) => Ok(Some(cell.sample().parts())),
         None => Ok(None),
@@ -59,7 +67,10 @@ fn whole_triangles(rt: HostRuntime) -> Result<(), Fail> {
     assert_eq!(rt; sample_of(alloc, Kind::Ge, &[])?, Some((1, 1, 3)));
     assert_eq!(rt; sample_of(alloc, Kind::Gt, &[])?, Some((1, 1, 3)));
     // halves that say nothing, and that nothing meets
-    assert_eq!(rt; sample_of(alloc, Kind::Gt, &[(0, 0, 1, Kind::Gt), (0, 0, 0, Kind::Ge)])?, Some((1, 1, 3)));
+    assert_eq!(rt;
+        sample_of(alloc, Kind::Gt, &[(0, 0, 1, Kind::Gt), (0, 0, 0, Kind::Ge)])?,
+        Some((1, 1, 3))
+    );
     assert_eq!(rt; sample_of(alloc, Kind::Ge, &[(0, 0, 0, Kind::Gt)])?, None);
     assert_eq!(rt; sample_of(alloc, Kind::Ge, &[(0, 0, -1, Kind::Ge)])?, None);
     assert_eq!(rt; sample_of(alloc, Kind::Ge, &[(1, 0, -2, Kind::Ge)])?, None);
@@ -70,19 +81,44 @@ fn whole_triangles(rt: HostRuntime) -> Result<(), Fail> {
 fn segments_and_points(rt: HostRuntime) -> Result<(), Fail> {
     let alloc = rt.alloc();
     // the edge y = 0, closed and left out
-    assert_eq!(rt; sample_of(alloc, Kind::Ge, &[(0, -1, 0, Kind::Ge)])?, Some((2, 0, 4)));
+    assert_eq!(rt;
+        sample_of(alloc, Kind::Ge, &[(0, -1, 0, Kind::Ge)])?,
+        Some((2, 0, 4))
+    );
     assert_eq!(rt; sample_of(alloc, Kind::Gt, &[(0, -1, 0, Kind::Ge)])?, None);
     // the corner (0, 0), closed and left out
-    assert_eq!(rt; sample_of(alloc, Kind::Ge, &[(-1, -1, 0, Kind::Ge)])?, Some((0, 0, 3)));
+    assert_eq!(rt;
+        sample_of(alloc, Kind::Ge, &[(-1, -1, 0, Kind::Ge)])?,
+        Some((0, 0, 3))
+    );
     assert_eq!(rt; sample_of(alloc, Kind::Ge, &[(-1, -1, 0, Kind::Gt)])?, None);
     // the segment x = 1/4 between open ends, and the point (1/4, 1/2) of it
     let segment = [(4, 0, -1, Kind::Ge), (-4, 0, 1, Kind::Ge)];
     assert_eq!(rt; sample_of(alloc, Kind::Gt, &segment)?, Some((4, 6, 16)));
-    let point = [(4, 0, -1, Kind::Ge), (-4, 0, 1, Kind::Ge), (0, 2, -1, Kind::Ge), (0, -2, 1, Kind::Ge)];
+    let point = [
+        (4, 0, -1, Kind::Ge),
+        (-4, 0, 1, Kind::Ge),
+        (0, 2, -1, Kind::Ge),
+        (0, -2, 1, Kind::Ge),
+    ];
     assert_eq!(rt; sample_of(alloc, Kind::Gt, &point)?, Some((8, 16, 32)));
     // strict halves that leave nothing
-    assert_eq!(rt; sample_of(alloc, Kind::Gt, &[(4, 0, -1, Kind::Gt), (-4, 0, 1, Kind::Gt)])?, None);
-    assert_eq!(rt; sample_of(alloc, Kind::Ge, &[(4, 0, -1, Kind::Ge), (-4, 0, 1, Kind::Gt)])?, None);
+    assert_eq!(rt;
+        sample_of(
+            alloc,
+            Kind::Gt,
+            &[(4, 0, -1, Kind::Gt), (-4, 0, 1, Kind::Gt)]
+        )?,
+        None
+    );
+    assert_eq!(rt;
+        sample_of(
+            alloc,
+            Kind::Ge,
+            &[(4, 0, -1, Kind::Ge), (-4, 0, 1, Kind::Gt)]
+        )?,
+        None
+    );
     Ok(())
 }
 
@@ -93,7 +129,12 @@ fn eighty_halves(rt: HostRuntime) -> Result<(), Fail> {
     let mut halves = Vec::new(alloc);
     let most = 1i64 << 38;
     for i in 0..76u8 {
-        halves.push((most - i64::from(i), most - 77 * i64::from(i), most, Kind::Ge))?;
+        halves.push((
+            most - i64::from(i),
+            most - 77 * i64::from(i),
+            most,
+            Kind::Ge,
+        ))?;
     }
     let cell = cell_of(alloc, &corners, Kind::Ge, &halves)?;
     assert!(rt; cell.is_some());
@@ -141,8 +182,14 @@ fn open_corner_triangle(rt: HostRuntime) -> Result<(), Fail> {
         }
         assert_eq!(rt; spans_of(&cell, -1, 0), Some((span(1, 1), span(0, 0))));
         // x * 2^37 is above 0 and below 2^34, whole or not
-        assert_eq!(rt; spans_of(&cell, WIDEST, 0), Some((span(1 - (1 << 34), 0), span(-(1 << 34), -1))));
-        assert_eq!(rt; spans_of(&cell, -WIDEST, 0), Some((span(1, 1 << 34), span(0, (1 << 34) - 1))));
+        assert_eq!(rt;
+            spans_of(&cell, WIDEST, 0),
+            Some((span(1 - (1 << 34), 0), span(-(1 << 34), -1)))
+        );
+        assert_eq!(rt;
+            spans_of(&cell, -WIDEST, 0),
+            Some((span(1, 1 << 34), span(0, (1 << 34) - 1)))
+        );
     }
     Ok(())
 }
@@ -171,7 +218,12 @@ fn closed_corner_triangle(rt: HostRuntime) -> Result<(), Fail> {
 fn bounds_of_thin_cells(rt: HostRuntime) -> Result<(), Fail> {
     let alloc = rt.alloc();
     // the edge y = 0 of the triangle, from (0, 0) to (1, 0), without its end at x = 1
-    let edge = cell_of(alloc, &TRIANGLE, Kind::Ge, &[(0, -1, 0, Kind::Ge), (-1, 0, 1, Kind::Gt)])?;
+    let edge = cell_of(
+        alloc,
+        &TRIANGLE,
+        Kind::Ge,
+        &[(0, -1, 0, Kind::Ge), (-1, 0, 1, Kind::Gt)],
+    )?;
     assert!(rt; edge.is_some());
     if let Some(edge) = edge {
         let x = bounds_of(&edge, 1, 0, 0);
@@ -190,8 +242,14 @@ fn bounds_of_thin_cells(rt: HostRuntime) -> Result<(), Fail> {
     assert!(rt; point.is_some());
     if let Some(point) = point {
         assert_eq!(rt; spans_of(&point, 1, 1), Some((span(-8, -8), span(-8, -8))));
-        assert_eq!(rt; spans_of(&point, WIDEST, -WIDEST), Some((span(0, 0), span(0, 0))));
-        assert_eq!(rt; spans_of(&point, WIDEST, WIDEST), Some((span(-(1 << 40), -(1 << 40)), span(-(1 << 40), -(1 << 40)))));
+        assert_eq!(rt;
+            spans_of(&point, WIDEST, -WIDEST),
+            Some((span(0, 0), span(0, 0)))
+        );
+        assert_eq!(rt;
+            spans_of(&point, WIDEST, WIDEST),
+            Some((span(-(1 << 40), -(1 << 40)), span(-(1 << 40), -(1 << 40))))
+        );
     }
     Ok(())
 }

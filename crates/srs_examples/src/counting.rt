@@ -63,7 +63,10 @@ fn points_in_a_triangle(rt: HostRuntime) -> Result<(), Fail> {
 fn values(rt: HostRuntime) {
     assert_eq!(rt; value_at(2, -3, 5, (1, 1, 4)), Some(19));
     let most = 1i64 << 38;
-    assert_eq!(rt; value_at(most, most, most, (1 << 42, 1 << 42, 1 << 40)), Some((1i128 << 81) + (1 << 78)));
+    assert_eq!(rt;
+        value_at(most, most, most, (1 << 42, 1 << 42, 1 << 40)),
+        Some((1i128 << 81) + (1 << 78))
+    );
     assert_eq!(rt; value_at(most + 1, 0, 0, (0, 0, 1)), None);
     assert_eq!(rt; value_at(0, 0, 0, (0, 0, 0)), None);
 }

@@ -106,8 +106,8 @@ fn cuts_in_a_row(rt: HostRuntime) -> Result<(), Fail> {
     let alloc = rt.alloc();
     let mut cell = whole(alloc, &CORNER, Kind::Ge)?;
     // by x = 48/392, then 47/392, and so on; the first is just left of the corner (1/8, 0)
-    for k in 0..48 {
-        cell = below(alloc, &cell, 392, 0, k - 48)?.ok_or("the line divides it")?;
+    for c in -48..0 {
+        cell = below(alloc, &cell, 392, 0, c)?.ok_or("the line divides it")?;
     }
     assert_eq!(rt; cell.region().len(), 51);
     let (p, _, d) = cell.sample().parts();

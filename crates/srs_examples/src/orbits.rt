@@ -34,12 +34,31 @@ fn orbit_ends(rt: HostRuntime) -> Result<(), Fail> {
         ((1, -1, 4), (1, 1), 100, OrbitEnd::Zero(2)),
         ((-1, -1, 2), (1, 1), 100, OrbitEnd::Loop(0, 1)),
         // long ones, which a search through all earlier pairs would not end
-        ((2000179, -1598406, 2000192), (893, 335), 100_000, OrbitEnd::Loop(63404, 30253)),
-        ((2000179, -1598406, 2000192), (893, 335), 93_657, OrbitEnd::Loop(63404, 30253)),
-        ((2000179, -1598406, 2000192), (893, 335), 93_656, OrbitEnd::Spent),
+        (
+            (2000179, -1598406, 2000192),
+            (893, 335),
+            100_000,
+            OrbitEnd::Loop(63404, 30253),
+        ),
+        (
+            (2000179, -1598406, 2000192),
+            (893, 335),
+            93_657,
+            OrbitEnd::Loop(63404, 30253),
+        ),
+        (
+            (2000179, -1598406, 2000192),
+            (893, 335),
+            93_656,
+            OrbitEnd::Spent,
+        ),
     ];
     for ((p, q, d), (a, b), n, want) in rows {
-        assert_eq!(rt; end(p, q, d, a, b, n), Some(want), "at {p} {q} {d} from {a} {b}, {n} steps");
+        assert_eq!(rt;
+            end(p, q, d, a, b, n),
+            Some(want),
+            "at {p} {q} {d} from {a} {b}, {n} steps"
+        );
     }
     Ok(())
 }
@@ -51,7 +70,19 @@ fn steps(rt: HostRuntime) -> Result<(), Fail> {
     if let Some(r) = r {
         assert!(rt; r.near());
         assert_eq!(rt; step(&r, V2 { a: 5, b: 7 }), V2 { a: 7, b: 1 });
-        assert_eq!(rt; step(&r, V2 { a: -WIDEST, b: WIDEST }), V2 { a: WIDEST, b: -(1 << 33) });
+        assert_eq!(rt;
+            step(
+                &r,
+                V2 {
+                    a: -WIDEST,
+                    b: WIDEST
+                }
+            ),
+            V2 {
+                a: WIDEST,
+                b: -(1 << 33)
+            }
+        );
     }
     Ok(())
 }

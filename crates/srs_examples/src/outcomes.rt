@@ -127,7 +127,9 @@ fn one_witness_too_many(rt: HostRuntime) -> Result<(), Fail> {
 fn single_points(rt: HostRuntime) -> Result<(), Fail> {
     let alloc = rt.alloc();
     // at (0, 0) each pair (a, b) goes to (b, 0)
-    let origin = cell_of(alloc, &CORNER, Kind::Ge, &[(-1, -1, 0, Kind::Ge)])?.ok_or("it is a point")?;
+    let origin = cell_of(alloc, &CORNER, Kind::Ge, &[(-1, -1, 0, Kind::Ge)])?.ok_or(
+        "it is a point",
+    )?;
     let five = [pair(-1, 0), pair(0, -1), pair(0, 0), pair(0, 1), pair(1, 0)];
     match witnesses(alloc, &origin, 5) {
         Ok(set) => assert_eq!(rt; set.as_slice(), five.as_slice()),
@@ -185,7 +187,10 @@ fn a_pair_that_stays(rt: HostRuntime) -> Result<(), Fail> {
     assert!(rt; graph.ranks(alloc)?.is_none());
     // the least pair of the core only leads to the cycle
     let core = graph.core(alloc)?;
-    assert_eq!(rt; core.as_slice(), [pair(0, 1), pair(1, 0), pair(1, 1)].as_slice());
+    assert_eq!(rt;
+        core.as_slice(),
+        [pair(0, 1), pair(1, 0), pair(1, 1)].as_slice()
+    );
     let cycle = graph.cycle(alloc)?.ok_or("there is a core")?;
     assert_eq!(rt; cycle.len(), 1);
     assert_eq!(rt; cycle.entry(0), 1);
@@ -226,6 +231,9 @@ fn what_a_cycle_covers(rt: HostRuntime) -> Result<(), Fail> {
     assert_eq!(rt; failure(&closed(alloc, &CYCLE_ONE)?, &one), None);
     // x + y is at least 0 in the corner, and of both signs round (0, 0)
     assert_eq!(rt; failure(&closed(alloc, &CORNER)?, &one), Some((0, None)));
-    assert_eq!(rt; failure(&closed(alloc, &ORIGIN)?, &one), Some((0, Some((1, 1, 0)))));
+    assert_eq!(rt;
+        failure(&closed(alloc, &ORIGIN)?, &one),
+        Some((0, Some((1, 1, 0))))
+    );
     Ok(())
 }

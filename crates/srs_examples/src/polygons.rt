@@ -5,7 +5,11 @@ use std::alloc::{AllocError, Global};
 use std::test::Fail;
 
 // The vertices p/d, q/d, with edges of one kind.
-pub fn with_kind(alloc: Global, corners: &[(i64, i64, i64)], kind: Kind) -> Result<Vec<Vertex>, AllocError> {
+pub fn with_kind(
+    alloc: Global,
+    corners: &[(i64, i64, i64)],
+    kind: Kind,
+) -> Result<Vec<Vertex>, AllocError> {
     let mut vertices = Vec::new(alloc);
     for (p, q, d) in corners {
         vertices.push(Vertex {

@@ -15,10 +15,15 @@ pub const SPLIT: [(i64, i64, i64); 3] = [(-1, 0, 8), (0, -1, 8), (1, 0, 8)];
 
 // The two sides of y = 0, x = 0 and x + y = 0.
 const UP: (i64, i64, i64, Kind) = (0, 1, 0, Kind::Ge);
+
 const DOWN: (i64, i64, i64, Kind) = (0, -1, 0, Kind::Gt);
+
 const RIGHT: (i64, i64, i64, Kind) = (1, 0, 0, Kind::Ge);
+
 const LEFT: (i64, i64, i64, Kind) = (-1, 0, 0, Kind::Gt);
+
 const OVER: (i64, i64, i64, Kind) = (1, 1, 0, Kind::Ge);
+
 const UNDER: (i64, i64, i64, Kind) = (-1, -1, 0, Kind::Gt);
 
 // A part of the triangle.
@@ -28,7 +33,11 @@ pub fn part(alloc: Global, halves: &[(i64, i64, i64, Kind)]) -> Result<Cell, Fai
 }
 
 // How many witnesses the part has, where it is inside.
-fn inside(alloc: Global, halves: &[(i64, i64, i64, Kind)], last: Option<Last>) -> Result<Option<u32>, Fail> {
+fn inside(
+    alloc: Global,
+    halves: &[(i64, i64, i64, Kind)],
+    last: Option<Last>,
+) -> Result<Option<u32>, Fail> {
     let finding = refine(alloc, &part(alloc, halves)?, last, 16)?;
     match finding.outcome() {
         Outcome::Inside(ranks) => Ok(Some(ranks.len())),
@@ -37,7 +46,11 @@ fn inside(alloc: Global, halves: &[(i64, i64, i64, Kind)], last: Option<Last>) -
 }
 
 // The length and the first entry of the cycle of the part, where it is outside.
-fn outside(alloc: Global, halves: &[(i64, i64, i64, Kind)], last: Option<Last>) -> Result<Option<(u32, i64)>, Fail> {
+fn outside(
+    alloc: Global,
+    halves: &[(i64, i64, i64, Kind)],
+    last: Option<Last>,
+) -> Result<Option<(u32, i64)>, Fail> {
     let finding = refine(alloc, &part(alloc, halves)?, last, 16)?;
     match finding.outcome() {
         Outcome::Outside(cycle) => Ok(Some((cycle.len(), cycle.entry(0)))),
@@ -95,7 +108,10 @@ fn inside_cells(rt: HostRuntime) -> Result<(), Fail> {
 #[test]
 fn outside_cells(rt: HostRuntime) -> Result<(), Fail> {
     let alloc = rt.alloc();
-    assert_eq!(rt; outside(alloc, &[UP, LEFT], Some(Last::Depth))?, Some((2, 0)));
+    assert_eq!(rt;
+        outside(alloc, &[UP, LEFT], Some(Last::Depth))?,
+        Some((2, 0))
+    );
     assert_eq!(rt; outside(alloc, &[DOWN, UNDER], None)?, Some((1, 1)));
     Ok(())
 }
@@ -104,10 +120,19 @@ fn outside_cells(rt: HostRuntime) -> Result<(), Fail> {
 fn left_cells(rt: HostRuntime) -> Result<(), Fail> {
     let alloc = rt.alloc();
     let root = part(alloc, &[])?;
-    assert_eq!(rt; cause(alloc, &root, Last::Depth, 16)?, Some(Cause::Depth(Why::Cycle)));
-    assert_eq!(rt; cause(alloc, &root, Last::Cells, 16)?, Some(Cause::Cells(Why::Cycle)));
+    assert_eq!(rt;
+        cause(alloc, &root, Last::Depth, 16)?,
+        Some(Cause::Depth(Why::Cycle))
+    );
+    assert_eq!(rt;
+        cause(alloc, &root, Last::Cells, 16)?,
+        Some(Cause::Cells(Why::Cycle))
+    );
     // eight witnesses are too few for it
-    assert_eq!(rt; cause(alloc, &root, Last::Depth, 8)?, Some(Cause::Depth(Why::Witness)));
+    assert_eq!(rt;
+        cause(alloc, &root, Last::Depth, 8)?,
+        Some(Cause::Depth(Why::Witness))
+    );
     Ok(())
 }
 
@@ -124,7 +149,9 @@ fn grid_lines(rt: HostRuntime) -> Result<(), Fail> {
     let open = cell_of(alloc, &CORNER, Kind::Gt, &[])?.ok_or("it has a point")?;
     assert_eq!(rt; grid_line(&open), Some((16, 0, -1)));
     // no line divides a single point
-    let point = cell_of(alloc, &CORNER, Kind::Ge, &[(-1, -1, 0, Kind::Ge)])?.ok_or("it is a point")?;
+    let point = cell_of(alloc, &CORNER, Kind::Ge, &[(-1, -1, 0, Kind::Ge)])?.ok_or(
+        "it is a point",
+    )?;
     assert_eq!(rt; grid_line(&point), None);
     Ok(())
 }

@@ -10,6 +10,7 @@ use std::test::Fail;
 
 // The two sides of y = 0.
 const GE: (i64, i64, i64, Kind) = (0, 1, 0, Kind::Ge);
+
 const LT: (i64, i64, i64, Kind) = (0, -1, 0, Kind::Gt);
 
 // Why a finding isn't entered.
@@ -40,15 +41,29 @@ fn start(alloc: Global) -> Result<Version, Fail> {
     Ok(version)
 }
 
-fn with(alloc: Global, version: &Version, path: Path, f: Finding) -> Result<Result<Version, TreeErr>, Fail> {
+fn with(
+    alloc: Global,
+    version: &Version,
+    path: Path,
+    f: Finding,
+) -> Result<Result<Version, TreeErr>, Fail> {
     if path.len() >= 48 {
         Err("it is short")?;
     }
     Ok(version.with(alloc, path, f))
 }
 
-// Why the finding of the part isn't entered at the path, with the length of the cell that is named, or the number of its
-// halves.
+// What the refusal says, with the length of the cell that is named, or the number of its halves.
+fn kind_of(refused: &TreeErr) -> Refusal {
+    match refused {
+        TreeErr::NotThere(longest) => Refusal::NotThere(longest.len()),
+        TreeErr::Done(_) => Refusal::Done,
+        TreeErr::OtherCell(cell) => Refusal::OtherCell(cell.region().len()),
+        TreeErr::NoMemory(_) => Refusal::NoMemory,
+    }
+}
+
+// Why the finding of the part isn't entered at the path.
 fn why_not(
     alloc: Global,
     version: &Version,
@@ -58,10 +73,7 @@ fn why_not(
     let finding = finding_of(alloc, halves)?;
     match with(alloc, version, path, finding)? {
         Ok(_) => Ok(None),
-        Err(TreeErr::NotThere(longest)) => Ok(Some(Refusal::NotThere(longest.len()))),
-        Err(TreeErr::Done(_)) => Ok(Some(Refusal::Done)),
-        Err(TreeErr::OtherCell(cell)) => Ok(Some(Refusal::OtherCell(cell.region().len()))),
-        Err(TreeErr::NoMemory(_)) => Ok(Some(Refusal::NoMemory)),
+        Err(refused) => Ok(Some(kind_of(&refused))),
     }
 }
 
@@ -113,8 +125,14 @@ fn refused_entries(rt: HostRuntime) -> Result<(), Fail> {
     assert_eq!(rt; why_not(alloc, &version, root, &[])?, Some(Refusal::Done));
     // its Ge part has four halves, and is no cut yet
     let upper = child(&root, Side::Ge)?;
-    assert_eq!(rt; why_not(alloc, &version, child(&upper, Side::Ge)?, &[])?, Some(Refusal::NotThere(1)));
-    assert_eq!(rt; why_not(alloc, &version, upper, &[LT])?, Some(Refusal::OtherCell(4)));
+    assert_eq!(rt;
+        why_not(alloc, &version, child(&upper, Side::Ge)?, &[])?,
+        Some(Refusal::NotThere(1))
+    );
+    assert_eq!(rt;
+        why_not(alloc, &version, upper, &[LT])?,
+        Some(Refusal::OtherCell(4))
+    );
     assert_eq!(rt; why_not(alloc, &version, upper, &[GE])?, None);
     Ok(())
 }
