@@ -164,6 +164,35 @@ fn left_cells(rt: HostRuntime) -> Result<(), Fail> {
     Ok(())
 }
 
+// A triangle from (-1/2, -1/2) to (-1/2, 0), with a corner whose sum x + y decides what the cycle 1 covers.
+#[test]
+fn open_corners(rt: HostRuntime) -> Result<(), Fail> {
+    let runs = [
+        certify(
+            "polygon 3\nge -1 -1 2\nge -1 -1 4\nge -1 0 2\nend\n",
+            Status::Done,
+            "srs 1\npolygon 3\nge -1 -1 2\nge -1 -1 4\nge -1 0 2\nlimits 0 1 16\nleft depth cycle\nend\n",
+        ),
+        certify(
+            "polygon 3\nge -1 -1 2\nge 0 0 1\nge -1 0 2\nend\n",
+            Status::Done,
+            "srs 1\npolygon 3\nge -1 -1 2\nge 0 0 1\nge -1 0 2\nlimits 0 1 16\nleft depth cycle\nend\n",
+        ),
+        // without (0, 0)
+        certify(
+            "polygon 3\ngt -1 -1 2\ngt 0 0 1\nge -1 0 2\nend\n",
+            Status::Done,
+            "srs 1\npolygon 3\ngt -1 -1 2\ngt 0 0 1\nge -1 0 2\nlimits 0 1 16\nout 1 1\nend\n",
+        ),
+    ];
+    for run in &runs {
+        let seen = play(rt.alloc(), run)?;
+        assert_eq!(rt; seen.status, run.status, "at {:?}", run.input);
+        assert_eq!(rt; seen.sink.bytes(), run.output.as_bytes());
+    }
+    Ok(())
+}
+
 #[test]
 fn unknown_words(rt: HostRuntime) -> Result<(), Fail> {
     let runs = [
