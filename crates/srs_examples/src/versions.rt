@@ -1,7 +1,8 @@
 // Versions of a tree, and why they don't take a finding.
 use crate::cells::cell_of;
 use crate::refinement::{SPLIT, part};
-use srs_path::{Finding, Outcome, Path, Side};
+use srs_cell::Cell;
+use srs_path::{Event, Finding, Outcome, Path, Side};
 use srs_plane::Kind;
 use srs_refine::refine;
 use srs_tree::{TreeErr, Version};
@@ -17,7 +18,7 @@ const LT: (i64, i64, i64, Kind) = (0, -1, 0, Kind::Gt);
 #[derive(Clone, Copy, Debug, PartialEq, Eq, Drop)]
 enum Refusal {
     NotThere(u32),
-    Done,
+    Done(Option<(i64, i64, i64)>),
     OtherCell(u32),
     NoMemory,
 }
@@ -53,11 +54,19 @@ fn with(
     Ok(version.with(alloc, path, f))
 }
 
-// What the refusal says, with the length of the cell that is named, or the number of its halves.
+// The numbers of the form that cuts.
+fn cut(outcome: &Outcome) -> Option<(i64, i64, i64)> {
+    match outcome {
+        Outcome::Cut(form) => Some(form.parts()),
+        _ => None,
+    }
+}
+
+// What the refusal says: the length of the cell that is named, the form that cuts it, or the number of its halves.
 fn kind_of(refused: &TreeErr) -> Refusal {
     match refused {
         TreeErr::NotThere(longest) => Refusal::NotThere(longest.len()),
-        TreeErr::Done(_) => Refusal::Done,
+        TreeErr::Done(outcome) => Refusal::Done(cut(outcome)),
         TreeErr::OtherCell(cell) => Refusal::OtherCell(cell.region().len()),
         TreeErr::NoMemory(_) => Refusal::NoMemory,
     }
@@ -93,9 +102,21 @@ fn entered(
 
 fn is_cut(version: &Version, path: Path) -> bool {
     match version.outcome(path) {
-        Some(Outcome::Cut(_)) => true,
-        _ => false,
+        Some(outcome) => cut(outcome).is_some(),
+        None => false,
     }
+}
+
+fn is_shared<T: Send + Sync>() -> bool {
+    true
+}
+
+// What threads pass on and share: that this is compiled shows it.
+#[test]
+fn shared_types(rt: HostRuntime) -> Result<(), Fail> {
+    assert!(rt; is_shared::<Cell>() && is_shared::<Outcome>() && is_shared::<Finding>());
+    assert!(rt; is_shared::<Event>() && is_shared::<Version>() && is_shared::<TreeErr>());
+    Ok(())
 }
 
 #[test]
@@ -122,7 +143,10 @@ fn refused_entries(rt: HostRuntime) -> Result<(), Fail> {
     let alloc = rt.alloc();
     let root = Path::root();
     let version = entered(alloc, &start(alloc)?, root, &[])?;
-    assert_eq!(rt; why_not(alloc, &version, root, &[])?, Some(Refusal::Done));
+    assert_eq!(rt;
+        why_not(alloc, &version, root, &[])?,
+        Some(Refusal::Done(Some((0, 1, 0))))
+    );
     // its Ge part has four halves, and is no cut yet
     let upper = child(&root, Side::Ge)?;
     assert_eq!(rt;
