@@ -137,18 +137,6 @@ fn left_cells(rt: HostRuntime) -> Result<(), Fail> {
 }
 
 #[test]
-fn copies_of_the_root(rt: HostRuntime) -> Result<(), Fail> {
-    let alloc = rt.alloc();
-    let root = part(alloc, &[])?;
-    let region = root.region().copy(alloc)?;
-    assert!(rt; region.same(root.region()));
-    let cell = root.copy(alloc)?;
-    assert!(rt; cell.region().same(root.region()));
-    assert_eq!(rt; cell.sample(), root.sample());
-    Ok(())
-}
-
-#[test]
 fn grid_lines(rt: HostRuntime) -> Result<(), Fail> {
     let alloc = rt.alloc();
     // x = 0 goes before y = 0

@@ -1,8 +1,7 @@
 // Versions of a tree, and why they don't take a finding.
 use crate::cells::cell_of;
 use crate::refinement::{SPLIT, part};
-use srs_cell::Cell;
-use srs_path::{Event, Finding, Outcome, Path, Side};
+use srs_path::{Finding, Outcome, Path, Side};
 use srs_plane::Kind;
 use srs_refine::refine;
 use srs_tree::{TreeErr, Version};
@@ -18,7 +17,7 @@ const LT: (i64, i64, i64, Kind) = (0, -1, 0, Kind::Gt);
 #[derive(Clone, Copy, Debug, PartialEq, Eq, Drop)]
 enum Refusal {
     NotThere(u32),
-    Done(Option<(i64, i64, i64)>),
+    Done,
     OtherCell(u32),
     NoMemory,
 }
@@ -54,19 +53,11 @@ fn with(
     Ok(version.with(alloc, path, f))
 }
 
-// The numbers of the form that cuts.
-fn cut(outcome: &Outcome) -> Option<(i64, i64, i64)> {
-    match outcome {
-        Outcome::Cut(form) => Some(form.parts()),
-        _ => None,
-    }
-}
-
-// What the refusal says: the length of the cell that is named, the form that cuts it, or the number of its halves.
+// What the refusal says, with the length of the cell that is named, or the number of its halves.
 fn kind_of(refused: &TreeErr) -> Refusal {
     match refused {
         TreeErr::NotThere(longest) => Refusal::NotThere(longest.len()),
-        TreeErr::Done(outcome) => Refusal::Done(cut(outcome)),
+        TreeErr::Done(_) => Refusal::Done,
         TreeErr::OtherCell(cell) => Refusal::OtherCell(cell.region().len()),
         TreeErr::NoMemory(_) => Refusal::NoMemory,
     }
@@ -102,21 +93,9 @@ fn entered(
 
 fn is_cut(version: &Version, path: Path) -> bool {
     match version.outcome(path) {
-        Some(outcome) => cut(outcome).is_some(),
-        None => false,
+        Some(Outcome::Cut(_)) => true,
+        _ => false,
     }
-}
-
-fn is_shared<T: Send + Sync>() -> bool {
-    true
-}
-
-// What threads pass on and share: that this is compiled shows it.
-#[test]
-fn shared_types(rt: HostRuntime) -> Result<(), Fail> {
-    assert!(rt; is_shared::<Cell>() && is_shared::<Outcome>() && is_shared::<Finding>());
-    assert!(rt; is_shared::<Event>() && is_shared::<Version>() && is_shared::<TreeErr>());
-    Ok(())
 }
 
 #[test]
@@ -143,10 +122,7 @@ fn refused_entries(rt: HostRuntime) -> Result<(), Fail> {
     let alloc = rt.alloc();
     let root = Path::root();
     let version = entered(alloc, &start(alloc)?, root, &[])?;
-    assert_eq!(rt;
-        why_not(alloc, &version, root, &[])?,
-        Some(Refusal::Done(Some((0, 1, 0))))
-    );
+    assert_eq!(rt; why_not(alloc, &version, root, &[])?, Some(Refusal::Done));
     // its Ge part has four halves, and is no cut yet
     let upper = child(&root, Side::Ge)?;
     assert_eq!(rt;
