@@ -5,3 +5,4 @@ pub mod Snapshots
 pub mod Growth
 pub mod Nodes
 pub mod Preorder
+pub mod WholeTrees

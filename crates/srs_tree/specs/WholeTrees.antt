@@ -1,0 +1,32 @@
+-- The events of a whole tree in preorder, as a certificate lists them.
+use Rattle.std.specs.Prelude.{◌≡◌, ⊤, ◌<◌, ◌≤◌, List, [], ◌∷◌, ◌++◌, length}
+use Rattle.std.specs.List.{All}
+use Rattle.srs_path.specs.declared.paths.Side.{Side}
+use Rattle.srs_path.specs.declared.outcomes.Outcome.TheVariants.{Inside, Outside, Cut, Left}
+use Rattle.srs_path.specs.Views.{Budget, Entry}
+use Rattle.srs_tree.specs.Tree.{History}
+use Rattle.srs_tree.specs.Rounds.{parts_by}
+
+-- the events of the trees below the paths that wait, and no other: each path's event, then those below its Ge part, then
+-- those below its Lt part
+abbrev pub ListsTrees : List (List Side) → History → Type 0
+ListsTrees [] [] = ⊤
+ListsTrees [] (e ∷ H) = ⊥
+ListsTrees (path ∷ waiting) [] = ⊥
+ListsTrees (path ∷ waiting) (e ∷ H) = (e.path ≡ path) × ListsTrees (parts_by e.path e.outcome ++ waiting) H
+
+-- H lists a whole tree, from the root on
+abbrev pub ListsWholeTree : History → Type 0
+ListsWholeTree H = ListsTrees ([] ∷ []) H
+
+-- the event keeps to the limits: a cut above the greatest depth, and no more witnesses or entries than are allowed
+abbrev pub KeepsTo : Budget → Entry → Type 0
+KeepsTo b (record { path = path; outcome = Inside ranks }) = length ranks ≤ b.wits
+KeepsTo b (record { path = path; outcome = Outside cycle }) = length cycle ≤ b.wits
+KeepsTo b (record { path = path; outcome = Cut h }) = length path < b.depth
+KeepsTo b (record { path = path; outcome = Left cause }) = ⊤
+
+-- H has no more cells than are allowed, and each of its events keeps to the limits
+pub record IsWithin (b : Budget) (H : History) : Type 0 where
+  pub cells : length H ≤ b.cells
+  pub each : All (KeepsTo b) H
