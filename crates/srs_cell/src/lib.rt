@@ -7,10 +7,12 @@ mod corners;
 mod divisions;
 mod ends;
 mod moves;
+mod sharing;
 mod sides;
 
 pub use bounds::Bound;
 pub use cells::Cell;
 pub use divisions::Parts;
 pub use moves::Span;
+pub use sharing::shared;
 pub use sides::{divides, is_above, is_below};

@@ -8,7 +8,7 @@ use Rattle.std.proofs.Math.Nat.{mod-eq_of_lt}
 use Rattle.std.proofs.Math.Seq.{get_or-append_seam}
 use Rattle.std.proofs.lemmas.List.{get_or_default, get_or_append_left, get_or-set_same, get_or-set_other}
 use Rattle.std.proofs.lemmas.Int.{ints}
-use Rattle.std.proofs.lemmas.List.FromFn.{length-map-range_with_len, get_or-map-range_with_len}
+use Rattle.std.proofs.lemmas.List.FromFn.{length-map-range_with_len}
 use Rattle.srs_num.specs.declared.pairs.V2.{V2}
 use Rattle.srs_num.specs.Points.{IsWithin}
 use Rattle.srs_map.specs.Step.{pair, origin, IsNarrow}
@@ -18,6 +18,7 @@ use Rattle.srs_path.specs.Core.{IsInCore, HasCore, HasNoCore, Precedes}
 use Rattle.srs_path.specs.ChosenCycle.{IsLeast, IsChosen, NotAfter}
 use Rattle.srs_path.specs.Cutout.{entry_at}
 use Rattle.srs_path.specs.Lists.{IsCycle}
+use Rattle.srs_path.proofs.ChosenEdges.{in_core, len, entry_of}
 use Rattle.srs_graph.specs.declared.rows.Row.{Row}
 use Rattle.srs_graph.specs.Networks.{pair_at, row_at, AreRows, network, IsNetwork, IsGraph}
 use Rattle.srs_graph.specs.Marks.{mark_at, IsPeeled, LeadsOn, HasNoMarks}
@@ -247,46 +248,36 @@ leads_on ps rows ms d i h e = (d.left i (omega (arith, d.marks.len)) e).on
 
 -- the chosen cycle keeps what a cycle keeps
 module _ (R : Area) (ps : List V2) (rows : List Row) (n : IsNetwork (network ps rows)) (g : IsGraph R (network ps rows)) (c : List ℤ) (u : IsChosen R c) where
-  in_core : (k : ℕ) → k ≤ u.from + u.period → IsInCore R (u.z k)
-  in_core zero h = u.start.has
-  in_core (suc k) h = let e : k + 1 ≡ suc k = omega arith in subst (λ (x : ℕ). IsInCore R (u.z x)) e (u.go k (omega arith)).has.0
-
-  len : length c ≡ u.period
-  len = ap length u.entries ∙ length-map-range_with_len (λ k. (u.z k).a) u.from u.period
-
-  entry : (i : ℕ) (d : ℤ) → i < u.period → get_or c i d ≡ (u.z (u.from + i)).a
-  entry i d h = ap (λ (x : List ℤ). get_or x i d) u.entries ∙ get_or-map-range_with_len (λ k. (u.z k).a) u.from u.period i (u.from + i) d h (omega arith)
-
   narrow : (k : ℕ) → k ≤ u.from + u.period → IsWithin (2 ^ 37) (u.z k).a
-  narrow k h = let t = g.witnesses.all (u.z k) (in_core k h).witness in (subst IsNarrow t.2 (n.narrow t.0 (u.z k) t.1)).0
+  narrow k h = let t = g.witnesses.all (u.z k) (in_core R c u k h).witness in (subst IsNarrow t.2 (n.narrow t.0 (u.z k) t.1)).0
 
   following : (u.z u.from).b ≡ (u.z (u.from + 1)).a
   following = ap (λ (v : V2). v.a) (u.go u.from (omega (arith, u.some_step))).has.1.2
 
   first_entry : entry_at c 0 ≡ (u.z u.from).a
   first_entry =
-      let z : 0 % length c ≡ 0 = omega (arith, len, u.some_step) in
-      ap (λ (i : ℕ). get_or c i (pos 0)) z ∙ entry 0 (pos 0) u.some_step ∙ ap (λ (k : ℕ). (u.z k).a) (add-zero u.from)
+      let z : 0 % length c ≡ 0 = omega (arith, len R c u, u.some_step) in
+      ap (λ (i : ℕ). get_or c i (pos 0)) z ∙ entry_of R c u 0 (pos 0) u.some_step ∙ ap (λ (k : ℕ). (u.z k).a) (add-zero u.from)
 
   second_entry : entry_at c 1 ≡ (u.z u.from).b
   second_entry = elim (dec_lt 1 u.period) as (λ _. entry_at c 1 ≡ (u.z u.from).b) [
     | yes h ↦
-        let l : 1 < length c = omega (arith, len, h) in
+        let l : 1 < length c = omega (arith, len R c u, h) in
         let z : 1 % length c ≡ 1 = mod-eq_of_lt l in
-        ap (λ (i : ℕ). get_or c i (pos 0)) z ∙ entry 1 (pos 0) h ∙ sym following
+        ap (λ (i : ℕ). get_or c i (pos 0)) z ∙ entry_of R c u 1 (pos 0) h ∙ sym following
     | no h ↦
         let p : u.period ≡ 1 = omega (arith, u.some_step) in
-        let z : 1 % length c ≡ 0 = omega (arith, len, p) in
-        ap (λ (i : ℕ). get_or c i (pos 0)) z ∙ entry 0 (pos 0) u.some_step ∙ ap (λ (k : ℕ). (u.z k).a) (add-zero u.from)
+        let z : 1 % length c ≡ 0 = omega (arith, len R c u, p) in
+        ap (λ (i : ℕ). get_or c i (pos 0)) z ∙ entry_of R c u 0 (pos 0) u.some_step ∙ ap (λ (k : ℕ). (u.z k).a) (add-zero u.from)
         ∙ ap (λ (v : V2). v.a) (sym u.met_twice) ∙ ap (λ (k : ℕ). (u.z (u.from + k)).a) p ∙ sym following
   ]
 
   pub chosen_is_cycle : length c ≤ 16384 → IsCycle c
   chosen_is_cycle s = record {
-    some = omega (arith, len, u.some_step);
+    some = omega (arith, len R c u, u.some_step);
     short = s;
-    narrow = λ i d h. subst (IsWithin (2 ^ 37)) (sym (entry i d (omega (arith, len)))) (narrow (u.from + i) (omega (arith, len)));
-    not_zero = λ e. (in_core u.from (omega arith)).walks 0 (ap₂ pair (sym first_entry) (sym second_entry) ∙ e);
+    narrow = λ i d h. subst (IsWithin (2 ^ 37)) (sym (entry_of R c u i d (omega (arith, len R c u)))) (narrow (u.from + i) (omega (arith, len R c u)));
+    not_zero = λ e. (in_core R c u u.from (omega arith)).walks 0 (ap₂ pair (sym first_entry) (sym second_entry) ∙ e);
   }
 
 -- what the walk lists is the chosen cycle

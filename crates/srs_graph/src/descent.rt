@@ -1,12 +1,12 @@
 // The depth-first descent that finds the ranks. It enters each pair once, and reads each edge once, and once more where
 // it waited for the pair that the edge leads to.
 ghost use Rattle.std.specs.Prelude.{◌≡◌, ◌≢◌, ◌<◌, ◌≤◌, ◌+◌, ◌++◌, ◌∷◌, [], length, true, false, None, IfOk, OnOk};
-ghost use Rattle.srs_map.specs.Step.{origin};
 ghost use Rattle.srs_graph.specs.Networks.{row_at, AreRows};
 ghost use Rattle.srs_graph.specs.Marks.{mark_at, AreMarks};
 ghost use Rattle.srs_graph.specs.Descents.{is_entered, AreNotEntered, left_over, StayEntered, AreSmall, IsRead, TopWaitsFor, IsDescent};
 
 use crate::rows::Row;
+use srs_map::is_origin;
 use srs_num::{NoMemory, V2};
 use std::alloc::Global;
 
@@ -23,14 +23,6 @@ pub(crate) struct Visit {
 pub(crate) struct Descent {
     pub entered: Vec<bool>,
     pub path: Vec<Visit>,
-}
-
-// Whether a pair is (0, 0).
-fn is_origin(w: V2) -> bool
-    ensures yes { result ≡ true → w ≡ origin }
-    ensures no { result ≡ false → w ≢ origin }
-{
-    w.a == 0 && w.b == 0
 }
 
 // Reads a row on, as far as its pairs have ranks.

@@ -8,7 +8,7 @@ ghost use Rattle.srs_wit.specs.Listing.{AreAllWitnesses};
 ghost use Rattle.srs_graph.specs.Networks.{network, IsNetwork, IsGraph};
 ghost use Rattle.srs_graph.specs.Listings.{AreTheCore};
 
-use crate::listing::{copied, numbers, open_pairs};
+use crate::listing::{numbers, open_pairs};
 use crate::peeling::peel;
 use crate::rows::{Row, rows_of};
 use crate::walks::{entries, first_open, walk};
@@ -89,7 +89,7 @@ fn ranks_of(alloc: Global, pairs: &[V2], rows: &[Row]) -> Result<Option<Ranks>, 
 {
     let marks = peel(alloc, pairs, rows)?;
     match numbers(alloc, &marks)? {
-        Some(ranks) => Ok(Ranks::of(copied(alloc, pairs)?, ranks)),
+        Some(ranks) => Ok(Ranks::of(Pairs::from_slice(alloc, pairs)?, ranks)),
         None => Ok(None),
     }
 }

@@ -6,20 +6,6 @@ use srs_num::{NoMemory, Pairs, V2};
 use srs_text::Nums;
 use std::alloc::Global;
 
-// The pairs as a list of their own.
-pub(crate) fn copied(alloc: Global, pairs: &[V2]) -> Result<Pairs, NoMemory>
-    ensures { IfOk result (λ copy. copy ≡ pairs.now) }
-{
-    let mut copy = Pairs::new(alloc);
-    for w in pairs {
-        match copy.push(*w) {
-            Ok(()) => {}
-            Err(_) => return Err(NoMemory),
-        }
-    }
-    Ok(copy)
-}
-
 // The pairs with no mark, in their order.
 pub(crate) fn open_pairs(
     alloc: Global,

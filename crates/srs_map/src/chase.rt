@@ -5,7 +5,7 @@ ghost use Rattle.srs_num.specs.Points.{IsNear};
 ghost use Rattle.srs_map.specs.Step.{after, origin, IsNarrow};
 ghost use Rattle.srs_map.specs.Chase.{IsPlain, IsPlainBefore, IsEvent, IsMeeting, IsFinish, IsStart, IsPeriod};
 
-use crate::step;
+use crate::{is_narrow, is_origin, step};
 use srs_num::{Pt, V2};
 
 /// A pair of an orbit, and how many steps lead to it.
@@ -24,8 +24,6 @@ pub enum Finish {
     Meeting(Place),
     Apart,
 }
-
-const WIDEST: i64 = 1 << 37;
 
 /// Lets the tortoise take `n` steps from `z`. It costs three steps for each of n.
 pub fn race(r: &Pt, z: V2, n: u32) -> Finish
@@ -68,19 +66,6 @@ pub fn event(w: V2, k: u32) -> Option<Finish>
         return Some(Finish::Beyond(k));
     }
     None
-}
-
-/// Whether the pair is (0,0).
-pub fn is_origin(w: V2) -> bool
-    ensures { IsTrue result ↔ w ≡ origin }
-{
-    w.a == 0 && w.b == 0
-}
-
-fn is_narrow(w: V2) -> bool
-    ensures { IsTrue result ↔ IsNarrow w }
-{
-    -WIDEST <= w.a && w.a <= WIDEST && -WIDEST <= w.b && w.b <= WIDEST
 }
 
 /// The first pair of the orbit of `z` that comes back after as many steps as the meeting took. It costs two steps for

@@ -10,4 +10,4 @@ mod orbits;
 mod steps;
 
 pub use orbits::{OrbitEnd, orbit};
-pub use steps::step;
+pub use steps::{is_narrow, is_origin, step};

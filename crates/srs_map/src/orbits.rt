@@ -5,7 +5,8 @@ ghost use Rattle.srs_map.specs.Step.{IsNarrow};
 ghost use Rattle.srs_map.specs.Orbits.{IsOrbitEnd};
 ghost use Rattle.srs_map.specs.Chase.{IsMeeting};
 
-use crate::chase::{Finish, Place, is_origin, period, race, start};
+use crate::chase::{Finish, Place, period, race, start};
+use crate::is_origin;
 use srs_num::{Pt, V2};
 
 /// How an orbit ended: at (0,0) after so many steps, past the bound of its entries after so many steps, at a pair

@@ -1,9 +1,25 @@
 // The step.
-ghost use Rattle.std.specs.Prelude.{◌≡◌, ◌+ℤ◌, ◌*ℤ◌};
+ghost use Rattle.std.specs.Prelude.{◌≡◌, ◌+ℤ◌, ◌*ℤ◌, ◌↔◌, IsTrue};
 ghost use Rattle.srs_num.specs.Points.{IsNear};
-ghost use Rattle.srs_map.specs.Step.{step_of, IsNarrow};
+ghost use Rattle.srs_map.specs.Step.{step_of, origin, IsNarrow};
 
 use srs_num::{Pt, V2, floor_div};
+
+const WIDEST: i64 = 1 << 37;
+
+/// Whether the pair is (0,0).
+pub fn is_origin(w: V2) -> bool
+    ensures { IsTrue result ↔ w ≡ origin }
+{
+    w.a == 0 && w.b == 0
+}
+
+/// Whether both entries are within 2^37.
+pub fn is_narrow(w: V2) -> bool
+    ensures { IsTrue result ↔ IsNarrow w }
+{
+    -WIDEST <= w.a && w.a <= WIDEST && -WIDEST <= w.b && w.b <= WIDEST
+}
 
 /// The step of the parameter `r` at the pair `z`, which takes `(a, b)` to `(b, -floor((p*a + q*b) / d))`. It is given for
 /// a parameter of two coordinates within 4, and entries within 2^37: then the new entry is within 2^40.

@@ -1,7 +1,7 @@
 // Lists inside public types: small types over `Vec`, seen as lists.
-ghost use Rattle.std.specs.Prelude.{◌≡◌, ◌<◌, [], ◌∷◌, ◌++◌, length, slice_get, Some, IfErr, OnOk, OnErr};
+ghost use Rattle.std.specs.Prelude.{◌≡◌, ◌<◌, [], ◌∷◌, ◌++◌, length, slice_get, Some, IfOk, IfErr, OnOk, OnErr};
 
-use crate::{Form, V2};
+use crate::{Form, NoMemory, V2};
 use std::alloc::Global;
 use std::marker::Model;
 
@@ -27,6 +27,16 @@ impl Pairs {
     {
         Pairs {
             items: Vec::new(alloc),
+        }
+    }
+
+    /// These pairs. An `Err` is want of memory.
+    pub fn from_slice(alloc: Global, pairs: &[V2]) -> Result<Pairs, NoMemory>
+        ensures { IfOk result (λ list. list ≡ pairs.now) }
+    {
+        match Vec::from_slice(alloc, pairs) {
+            Ok(items) => Ok(Pairs { items }),
+            Err(_) => Err(NoMemory),
         }
     }
 

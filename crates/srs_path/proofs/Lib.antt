@@ -6,3 +6,7 @@ pub mod WitnessLemmas
 pub mod ChosenOnce
 pub mod Positive
 pub mod OutcomeSound
+pub mod ChosenEdges
+pub mod RefinesSound
+pub mod RanksOnce
+pub mod OutcomeOnce

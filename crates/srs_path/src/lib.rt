@@ -4,10 +4,12 @@
 mod cycles;
 mod events;
 mod findings;
+pub mod laws;
 mod limits;
 mod outcomes;
 mod paths;
 mod ranks;
+mod sharing;
 
 pub use cycles::Cycle;
 pub use events::Event;
@@ -16,3 +18,4 @@ pub use limits::{Last, Limits};
 pub use outcomes::{Cause, Outcome, Why};
 pub use paths::{Path, Side};
 pub use ranks::Ranks;
+pub use sharing::shared;

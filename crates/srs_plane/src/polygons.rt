@@ -21,6 +21,18 @@ pub struct Vertex {
     pub kind: Kind,
 }
 
+impl Vertex {
+    /// Whether the denominator is 1 to 65536 and both coordinates are at most 4 in magnitude. It takes no memory.
+    pub fn is_placed(&self) -> bool
+        ensures { IsTrue result ↔ IsPlaced self.now }
+    {
+        if !is_shallow(self) {
+            return false;
+        }
+        is_near(self)
+    }
+}
+
 /// Why a list of vertices is no polygon. Indices count from 0.
 #[derive(Clone, Copy, Debug, PartialEq, Eq, Error)]
 pub enum PolyErr {

@@ -1,5 +1,1 @@
-pub mod ChosenEdges
-pub mod Sound
-pub mod RanksOnce
-pub mod Once
 pub mod Uncovered

@@ -2,7 +2,6 @@
 //! with a cause.
 #![tactic(auto)]
 
-pub mod laws;
 mod refinement;
 
 pub use refinement::refine;

@@ -5,7 +5,6 @@ pub mod Grow
 pub mod CellsLemmas
 pub mod PartitionAll
 pub mod PlannedWhole
-pub mod OutcomeOnce
 pub mod Trees
 pub mod StandsLemmas
 pub mod Spots

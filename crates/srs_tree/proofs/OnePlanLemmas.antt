@@ -25,7 +25,7 @@ use Rattle.srs_path.specs.Views.{Budget}
 use Rattle.srs_path.specs.Views.{Entry}
 use Rattle.srs_path.specs.Refinement.{Refines}
 use Rattle.srs_path.specs.Soundness.{IsSound}
-use Rattle.srs_tree.proofs.OutcomeOnce.{outcome_once}
+use Rattle.srs_path.proofs.OutcomeOnce.{outcome_once}
 use Rattle.srs_tree.specs.Tree.{History, path_eq, outcome_at, IsCellOf, region_at, halves_along, cut_half, half_on}
 use Rattle.srs_tree.specs.Legality.{MayFollow, IsLegal}
 use Rattle.srs_tree.specs.Rounds.{cells_of, upto, row_of, last_in, IsPlan, HaveSameEntries, PlansAreSame}

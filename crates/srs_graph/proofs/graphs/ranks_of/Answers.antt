@@ -12,8 +12,8 @@ returns-in-Some c R g =
     let d : IsPeeled c.args.pairs.now c.args.rows.now c.deref.result.now = subst (IsPeeled c.args.pairs.now c.args.rows.now) (sym c.deref.ensures.value) c.in_ok-marks.ensures in
     let z : AreNumbers c.deref.result.now (length c.deref.result.now) c.in-Some.ranks = rw c.in-Some.is at c.in_ok-ranks.ensures in
     let p : AreNumbers c.deref.result.now (length c.args.pairs.now) c.in-Some.ranks = subst (λ (n : ℕ). AreNumbers c.deref.result.now n c.in-Some.ranks) d.marks.len z in
-    let e : c.in_ok-copied-in-Some.field-0 ≡ c.args.pairs.now = c.in_ok-copied-in-Some.ensures in
-    found_some (HasCore R) (MakesRanks c.in_ok-copied-in-Some.field-0 c.in-Some.ranks) (λ es. HasNoCore R × AreRanks R es) c.of.result (ranked c.in_ok-copied-in-Some.field-0 c.in-Some.ranks)
+    let e : c.in_ok-from_slice-in-Some.field-0 ≡ c.args.pairs.now = c.in_ok-from_slice-in-Some.ensures in
+    found_some (HasCore R) (MakesRanks c.in_ok-from_slice-in-Some.field-0 c.in-Some.ranks) (λ es. HasNoCore R × AreRanks R es) c.of.result (ranked c.in_ok-from_slice-in-Some.field-0 c.in-Some.ranks)
     c.of.ensures.some c.of.ensures.none
     (subst (λ (ps : List V2). MakesRanks ps c.in-Some.ranks) (sym e) (makes_ranks c.args.pairs.now c.args.rows.now c.deref.result.now c.in-Some.ranks c.requires d p))
     (subst (λ (ps : List V2). HasNoCore R × AreRanks R (ranked ps c.in-Some.ranks)) (sym e)

@@ -12,7 +12,7 @@ use Rattle.srs_path.specs.declared.outcomes.Outcome.TheVariants.{Inside, Outside
 use Rattle.srs_path.specs.Refinement.{Refines, StaysOpen, CutsByCycle, CutsByGrid}
 use Rattle.srs_path.specs.Soundness.{IsSound, IsLeftOpen}
 use Rattle.srs_path.proofs.OutcomeSound.{inside_sound, outside_sound}
-use Rattle.srs_refine.proofs.ChosenEdges.{chosen_some, chosen_not_zero}
+use Rattle.srs_path.proofs.ChosenEdges.{chosen_some, chosen_not_zero}
 
 left_open : (R : Area) (W : ℕ) (why : Why) → StaysOpen R W why → IsLeftOpen R W why
 left_open R W CycleFails h = (h.1.small, (h.1.chosen.z 0, h.1.chosen.start.has))

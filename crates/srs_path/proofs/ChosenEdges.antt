@@ -1,19 +1,17 @@
 -- The edges of the chosen cycle: at each of its places it holds at some point of the region.
-use Rattle.std.proofs.Common.{◌≡◌, ◌≢◌, ⊎_elim, ℕ, zero, suc, ◌+◌, ◌<◌, ◌≤◌, ◌%◌, List, length, ℤ, pos, arith, ap, ap₂, subst, sym, ◌∙◌, get_or, slice_get, Some}
+use Rattle.std.proofs.Common.{◌≡◌, ◌≢◌, ℕ, zero, suc, ◌+◌, ◌<◌, ◌≤◌, ◌%◌, List, length, ℤ, pos, arith, ap, ap₂, subst, sym, ◌∙◌, get_or}
 use Rattle.std.proofs.Math.Decide.{dec_lt}
 use Rattle.std.proofs.Math.Nat.{mod-eq_of_lt, mod-lt, mod_self, suc-mod}
 use Rattle.std.proofs.lemmas.List.FromFn.{length-map-range_with_len, get_or-map-range_with_len}
 use Rattle.srs_num.specs.declared.pairs.V2.{V2}
-use Rattle.srs_num.specs.Points.{Point, LinearForm}
+use Rattle.srs_num.specs.Points.{Point}
 use Rattle.srs_map.specs.Step.{pair, origin, step_of}
 use Rattle.srs_map.proofs.FormStep.{forms_by_step}
-use Rattle.srs_plane.specs.Regions.{Area, IsIn, Divides}
+use Rattle.srs_plane.specs.Regions.{Area, IsIn}
 use Rattle.srs_path.specs.Witnesses.{HasEdge}
 use Rattle.srs_path.specs.Core.{IsInCore}
 use Rattle.srs_path.specs.ChosenCycle.{IsChosen}
-use Rattle.srs_path.specs.Cutout.{entry_at, lower_form, upper_form, HoldsAt, Breaks, cutout_of}
-use Rattle.srs_path.proofs.Positive.{one_divides}
-use Rattle.srs_cut.proofs.Twos.{twos_lower, twos_upper}
+use Rattle.srs_path.specs.Cutout.{entry_at, HoldsAt}
 
 round_next : (i n : ℕ) → i % n + 1 < n → (i + 1) % n ≡ i % n + 1
 round_next i n h =
@@ -29,16 +27,16 @@ round_last i n h =
     ap (λ (x : ℕ). x % n) e ∙ suc-mod i n ∙ ap (λ (x : ℕ). x % n) s ∙ mod_self n
 
 module _ (R : Area) (c : List ℤ) (u : IsChosen R c) where
-  in_core : (k : ℕ) → k ≤ u.from + u.period → IsInCore R (u.z k)
+  pub in_core : (k : ℕ) → k ≤ u.from + u.period → IsInCore R (u.z k)
   in_core zero h = u.start.has
   in_core (suc k) h = let e : k + 1 ≡ suc k = omega arith in subst (λ (x : ℕ). IsInCore R (u.z x)) e (u.go k (omega arith)).has.0
 
-  len : length c ≡ u.period
+  pub len : length c ≡ u.period
   len = ap length u.entries ∙ length-map-range_with_len (λ k. (u.z k).a) u.from u.period
 
   -- the first entry of the pair at a place
-  entry_of : (j : ℕ) → j < u.period → get_or c j (pos 0) ≡ (u.z (u.from + j)).a
-  entry_of j h = ap (λ (x : List ℤ). get_or x j (pos 0)) u.entries ∙ get_or-map-range_with_len (λ k. (u.z k).a) u.from u.period j (u.from + j) (pos 0) h (omega arith)
+  pub entry_of : (j : ℕ) (d : ℤ) → j < u.period → get_or c j d ≡ (u.z (u.from + j)).a
+  entry_of j d h = ap (λ (x : List ℤ). get_or x j d) u.entries ∙ get_or-map-range_with_len (λ k. (u.z k).a) u.from u.period j (u.from + j) d h (omega arith)
 
   -- the pair at the place i, counted round
   around : ℕ → V2
@@ -49,7 +47,7 @@ module _ (R : Area) (c : List ℤ) (u : IsChosen R c) where
 
   entry_is : (i : ℕ) → entry_at c i ≡ (around i).a
   unfolding around
-  entry_is i = entry_of (i % length c) (place i)
+  entry_is i = entry_of (i % length c) (pos 0) (place i)
 
   -- each pair is followed by the next one, and the last by the first
   next : (i : ℕ) → u.z (u.from + i % length c + 1) ≡ around (i + 1)
@@ -80,15 +78,6 @@ module _ (R : Area) (c : List ℤ) (u : IsChosen R c) where
       let s : step_of e.0 (pair (entry_at c i) (entry_at c (i + 1))) ≡ pair (entry_at c (i + 1)) (entry_at c (i + 2)) =
       ap (step_of e.0) (sym (shown i)) ∙ e.2 ∙ shown (i + 1) ∙ ap (λ (k : ℕ). pair (entry_at c (i + 1)) (entry_at c k)) n in
       (e.0, e.1, forms_by_step e.0 (entry_at c i) (entry_at c (i + 1)) (entry_at c (i + 2)) e.1.is_point s)
-
-  -- where a point breaks the cycle, a form of its cutout divides
-  pub some_divides : (i : ℕ) → i < length c → Breaks R c i → ((k : ℕ) (g : LinearForm) → slice_get (cutout_of c) k ≡ Some g → Divides R g → ⊥) → ⊥
-  some_divides i l b none =
-      let t = holds_somewhere i in
-      ⊎_elim
-      (λ d. none (i + i) (lower_form c i) (twos_lower (lower_form c) (upper_form c) 0 (length c) i i l (omega arith)) d)
-      (λ d. none (i + i + 1) (upper_form c i) (twos_upper (lower_form c) (upper_form c) 0 (length c) i i l (omega arith)) d)
-      (one_divides R c i t.0 t.1 t.2 b)
 
   pub chosen_some : 1 ≤ length c
   chosen_some = omega (arith, len, u.some_step)

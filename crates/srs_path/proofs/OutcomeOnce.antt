@@ -20,7 +20,7 @@ use Rattle.srs_path.specs.declared.outcomes.Outcome.{Outcome}
 use Rattle.srs_path.specs.declared.outcomes.Outcome.TheVariants.{Inside, Outside, Cut, Left}
 use Rattle.srs_path.specs.Refinement.{Refines, CycleFailsOn, StaysOpen, CutsByCycle, CutsByGrid, GivesInside, GivesOutside, GivesThin}
 use Rattle.srs_path.proofs.ChosenOnce.{chosen_once, by_lt}
-use Rattle.srs_refine.proofs.RanksOnce.{ranks_once}
+use Rattle.srs_path.proofs.RanksOnce.{ranks_once}
 
 first_once : (R : Area) (fs : List LinearForm) (g h : LinearForm) → IsFirstDividing R fs g → IsFirstDividing R fs h → g ≡ h
 first_once R fs g h u v = by_lt u.place v.place
