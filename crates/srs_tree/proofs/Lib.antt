@@ -17,3 +17,8 @@ pub mod Entering
 pub mod Sorted
 pub mod Below
 pub mod OnePlanLemmas
+pub mod QueueLemmas
+pub mod RoundQueue
+pub mod PlannedSteps
+pub mod Bounded
+pub mod Opened
