@@ -22,3 +22,4 @@ pub mod RoundQueue
 pub mod PlannedSteps
 pub mod Bounded
 pub mod Opened
+pub mod RoundCounts
