@@ -16,3 +16,9 @@ pub mod Entering
 pub mod Sorted
 pub mod Below
 pub mod OnePlanLemmas
+pub mod QueueLemmas
+pub mod RoundQueue
+pub mod PlannedSteps
+pub mod Bounded
+pub mod Opened
+pub mod RoundCounts

@@ -3,6 +3,7 @@ pub mod Legality
 pub mod Rounds
 pub mod Snapshots
 pub mod Growth
+pub mod Queue
 pub mod Nodes
 pub mod Preorder
 pub mod WholeTrees

@@ -11,6 +11,7 @@ use Rattle.srs_path.specs.declared.outcomes.Outcome.TheVariants.{Inside, Outside
 use Rattle.srs_path.specs.Views.{Found}
 use Rattle.srs_tree.specs.Tree.{Tree, IsCellOf, half_on}
 use Rattle.srs_tree.specs.Snapshots.{Entries, Snapshot, tree_of, with_entry}
+use Rattle.srs_tree.specs.Queue.{WaitingCell}
 use Rattle.srs_tree.specs.Growth.{IsProvedOf, IsShortCut, MayEnter}
 
 -- a cell's path, its region, its outcome if it has one, and for a cut the place of its Ge part, after which the Lt part stands
@@ -84,6 +85,10 @@ parts_from x (Left cause) = []
 abbrev pub grown : List Spot → ℕ → Spot → Outcome → List Spot
 grown xs i x o =
     slice_set xs i (record { path = x.path; region = x.region; outcome = Some o; parts = length xs }) ++ parts_from x o
+
+-- the spot as a cell that waits
+abbrev pub waiting_of : Spot → WaitingCell
+waiting_of x = record { path = x.path; region = x.region }
 
 -- the spot at the place i has this path
 pub record IsPlaceOf (xs : List Spot) (p : List Side) (i : ℕ) : Type 0 where

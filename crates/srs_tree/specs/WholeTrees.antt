@@ -2,6 +2,7 @@
 use Rattle.std.specs.Prelude.{◌≡◌, ⊤, ◌<◌, ◌≤◌, List, [], ◌∷◌, ◌++◌, length}
 use Rattle.std.specs.List.{All}
 use Rattle.srs_path.specs.declared.paths.Side.{Side}
+use Rattle.srs_path.specs.declared.outcomes.Outcome.{Outcome}
 use Rattle.srs_path.specs.declared.outcomes.Outcome.TheVariants.{Inside, Outside, Cut, Left}
 use Rattle.srs_path.specs.Views.{Budget, Entry}
 use Rattle.srs_tree.specs.Tree.{History}
@@ -19,12 +20,17 @@ ListsTrees (path ∷ waiting) (e ∷ H) = (e.path ≡ path) × ListsTrees (parts
 abbrev pub ListsWholeTree : History → Type 0
 ListsWholeTree H = ListsTrees ([] ∷ []) H
 
--- the event keeps to the limits: a cut above the greatest depth, and no more witnesses or entries than are allowed
+-- the outcome of the cell at the path keeps to the limits: a cut above the greatest depth, and no more witnesses or entries
+-- than are allowed
+abbrev pub IsAllowed : Budget → List Side → Outcome → Type 0
+IsAllowed b path (Inside ranks) = length ranks ≤ b.wits
+IsAllowed b path (Outside cycle) = length cycle ≤ b.wits
+IsAllowed b path (Cut h) = length path < b.depth
+IsAllowed b path (Left cause) = ⊤
+
+-- the event keeps to the limits
 abbrev pub KeepsTo : Budget → Entry → Type 0
-KeepsTo b (record { path = path; outcome = Inside ranks }) = length ranks ≤ b.wits
-KeepsTo b (record { path = path; outcome = Outside cycle }) = length cycle ≤ b.wits
-KeepsTo b (record { path = path; outcome = Cut h }) = length path < b.depth
-KeepsTo b (record { path = path; outcome = Left cause }) = ⊤
+KeepsTo b e = IsAllowed b e.path e.outcome
 
 -- H has no more cells than are allowed, and each of its events keeps to the limits
 pub record IsWithin (b : Budget) (H : History) : Type 0 where

@@ -1,14 +1,16 @@
 // How a tree takes an outcome.
-ghost use Rattle.std.specs.Prelude.{◌≡◌, ◌+◌, ◌<◌, ◌≤◌, [], ◌∷◌, ◌++◌, length, slice_get, vec_len, vec_capacity, Some, None, IfOk, IfErr, OnOk, OnErr};
+ghost use Rattle.std.specs.Prelude.{◌≡◌, ◌+◌, ◌<◌, ◌≤◌, [], ◌∷◌, ◌++◌, length, map, slice_get, vec_len, vec_capacity, Some, None, IfOk, IfErr, OnOk, OnErr};
 ghost use Rattle.std.specs.Arc.{arc_value};
 ghost use Rattle.srs_plane.specs.Regions.{Divides};
 ghost use Rattle.srs_path.specs.declared.paths.Side.TheVariants.{Ge as OnGe, Lt as OnLt};
 ghost use Rattle.srs_path.specs.Soundness.{IsSound};
 ghost use Rattle.srs_tree.specs.Growth.{IsShortCut, IsTreeErr, SaysDone, SaysOther};
-ghost use Rattle.srs_tree.specs.Nodes.{Spot, AreSpots, MaySettle, IsReadyFor, IsOpenAt, part_of, parts_from, spots_from, grown, snapshot_of, HasGrown};
+ghost use Rattle.srs_tree.specs.Nodes.{Spot, AreSpots, MaySettle, IsReadyFor, IsOpenAt, part_of, parts_from, spots_from, waiting_of, grown, snapshot_of, HasGrown};
+ghost use Rattle.srs_tree.specs.Queue.{cell_in, cells_from};
+ghost use Rattle.srs_tree.specs.Rounds.{parts_by};
 
-use crate::TreeErr;
 use crate::nodes::{Node, find, shared};
+use crate::{Pending, TreeErr};
 use srs_cell::{Cell, Parts};
 use srs_num::{Form, NoMemory};
 use srs_path::{Finding, Outcome, Path, Side};
@@ -60,16 +62,17 @@ fn other_cell(cell: &Arc<Cell>, f: Finding) -> TreeErr
     }
 }
 
-// The outcome of the finding comes to the cell at the path. An `Err` leaves the cells as they were.
+// The outcome of the finding comes to the cell at the path, and its parts are given. An `Err` leaves the cells as they were.
 pub(crate) fn add_to(
     nodes: &mut Vec<Node>,
     alloc: Global,
     path: &Path,
     f: Finding,
-) -> Result<(), TreeErr>
+) -> Result<Option<(Pending, Pending)>, TreeErr>
     requires spots { AreSpots nodes.old.items }
     requires short { IsShortCut path.now f.outcome }
     ensures grown { OnOk result (HasGrown nodes.old.items nodes.new.items path.now f) }
+    ensures parts { IfOk result (λ parts. cells_from parts ≡ map (cell_in (snapshot_of nodes.new.items)) (parts_by path.now f.outcome)) }
     ensures refused { IfErr result (λ e. IsTreeErr (snapshot_of nodes.old.items) path.now f e) }
     ensures same { OnErr result (nodes.new.items ≡ nodes.old.items) }
 {
@@ -77,23 +80,33 @@ pub(crate) fn add_to(
     let _ = path.len();
     let (i, f) = place_for(nodes, path, f)?;
     match enter(nodes, alloc, i, f) {
-        Ok(()) => Ok(()),
+        Ok(parts) => Ok(parts),
         Err(f) => Err(TreeErr::NoMemory(f)),
     }
 }
 
-// The outcome of the finding comes to the cell at the place `i`. An `Err` is want of memory: the cells stay as they were,
-// and the finding comes back.
-fn enter(nodes: &mut Vec<Node>, alloc: Global, i: usize, f: Finding) -> Result<(), Finding>
+// The outcome of the finding comes to the cell at the place `i`, and its parts are given. An `Err` is want of memory: the
+// cells stay as they were, and the finding comes back.
+fn enter(
+    nodes: &mut Vec<Node>,
+    alloc: Global,
+    i: usize,
+    f: Finding,
+) -> Result<Option<(Pending, Pending)>, Finding>
     requires there { i < vec_len nodes.old }
     requires may { (x : Spot) → slice_get nodes.old.items i ≡ Some x → IsReadyFor x f }
     ensures ok { OnOk result ((x : Spot) → slice_get nodes.old.items i ≡ Some x → nodes.new.items ≡ grown nodes.old.items i x f.outcome) }
     ensures sound { OnOk result (IsSound f.region f.w f.outcome) }
+    ensures parts { IfOk result (λ parts. (x : Spot) → slice_get nodes.old.items i ≡ Some x → cells_from parts ≡ map waiting_of (parts_from x f.outcome)) }
     ensures err { IfErr result (λ g. g ≡ f) }
     ensures same { OnErr result (nodes.new.items ≡ nodes.old.items) }
 {
     let parts = match parts_of(alloc, &nodes[i], f.outcome()) {
         Ok(parts) => parts,
+        Err(NoMemory) => return Err(f),
+    };
+    let open = match open_parts(&parts) {
+        Ok(open) => open,
         Err(NoMemory) => return Err(f),
     };
     if nodes.reserve(2).is_err() {
@@ -103,7 +116,7 @@ fn enter(nodes: &mut Vec<Node>, alloc: Global, i: usize, f: Finding) -> Result<(
     match Arc::new(alloc, outcome) {
         Ok(outcome) => {
             settle(nodes, i, outcome, parts);
-            Ok(())
+            Ok(open)
         }
         Err(failed) => Err(Finding::found(region, w, failed.value)),
     }
@@ -143,6 +156,16 @@ fn parts_of(alloc: Global, node: &Node, outcome: &Outcome) -> Result<Option<(Nod
     match outcome {
         Outcome::Cut(h) => Ok(Some(halves(alloc, node, h)?)),
         Outcome::Inside(_) | Outcome::Outside(_) | Outcome::Left(_) => Ok(None),
+    }
+}
+
+// The parts as open cells.
+fn open_parts(parts: &Option<(Node, Node)>) -> Result<Option<(Pending, Pending)>, NoMemory>
+    ensures { IfOk result (λ cells. cells_from cells ≡ map waiting_of (spots_from parts.now)) }
+{
+    match parts {
+        Some((ge, lt)) => Ok(Some((ge.waiting()?, lt.waiting()?))),
+        None => Ok(None),
     }
 }
 

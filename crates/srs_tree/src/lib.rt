@@ -7,9 +7,11 @@ mod laws;
 mod nodes;
 mod refusals;
 mod versions;
+mod waiting;
 mod walks;
 
 pub use journals::Journal;
 pub use laws::histories;
 pub use refusals::TreeErr;
 pub use versions::Version;
+pub use waiting::Pending;

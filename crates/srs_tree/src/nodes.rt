@@ -2,10 +2,11 @@
 ghost use Rattle.std.specs.Prelude.{◌≡◌, length, ◌+◌, ◌<◌, ◌^◌, Some, None, IfOk, IfErr, IfSome, IfNone, MatchOption, OnErr};
 ghost use Rattle.srs_num.specs.Points.{LinearForm};
 ghost use Rattle.srs_path.specs.declared.outcomes.Outcome.TheVariants.{Cut as IsCut};
-ghost use Rattle.srs_tree.specs.Nodes.{Spot, AreSpots, IsPlaceOf, part_place, spots_tree};
+ghost use Rattle.srs_tree.specs.Nodes.{Spot, AreSpots, IsPlaceOf, part_place, spots_tree, waiting_of};
 ghost use Rattle.srs_tree.specs.Growth.{IsLongestCell};
 ghost use Rattle.srs_tree.specs.Tree.{IsCellOf};
 
+use crate::Pending;
 use srs_cell::Cell;
 use srs_num::NoMemory;
 use srs_path::{Outcome, Path, Side};
@@ -84,6 +85,16 @@ impl Node {
             }),
             _ => None,
         }
+    }
+
+    // The cell as one that waits.
+    pub(crate) fn waiting(&self) -> Result<Pending, NoMemory>
+        ensures { IfOk result (λ cell. cell ≡ waiting_of self.now) }
+    {
+        Ok(Pending {
+            path: self.path,
+            cell: shared(&self.cell)?,
+        })
     }
 
     // The same cell, shared.

@@ -1,14 +1,16 @@
 // Versions of a tree.
-ghost use Rattle.std.specs.Prelude.{◌≡◌, ◌≤◌, length, None, Some, IfOk, IfErr, OnOk, OnErr, MatchOption};
+ghost use Rattle.std.specs.Prelude.{◌≡◌, ◌≤◌, [], length, map as map_list, None, Some, IfOk, IfErr, OnOk, OnErr, MatchOption};
 ghost use Rattle.std.specs.FinMap as map;
 ghost use Rattle.srs_tree.specs.Snapshots.{tree_of, with_entry};
 ghost use Rattle.srs_tree.specs.Preorder.{preorder_of};
+ghost use Rattle.srs_tree.specs.Rounds.{parts_by};
+ghost use Rattle.srs_tree.specs.Queue.{cell_in, cells_from};
 ghost use Rattle.srs_tree.specs.Growth.{IsVersion, IsShortCut, MayEnter, IsTreeErr};
 
 use crate::growth::{add_to, place_for};
 use crate::nodes::{Node, copied, outcome_at};
 use crate::walks::walk;
-use crate::{Journal, TreeErr};
+use crate::{Journal, Pending, TreeErr};
 use srs_cell::Cell;
 use srs_num::NoMemory;
 use srs_path::{Finding, Outcome, Path};
@@ -56,6 +58,13 @@ impl Version {
         }
     }
 
+    /// The root cell, which has no event where the version has none.
+    pub fn root(&self) -> Result<Pending, NoMemory>
+        ensures { IfOk result (λ root. root ≡ record { path = []; region = self.now.region }) }
+    {
+        self.nodes[0].waiting()
+    }
+
     /// How many outcomes it has.
     pub fn count(&self) -> u64
         ensures count { result ≡ map.len self.now.entries }
@@ -90,18 +99,24 @@ impl Version {
         Ok(events)
     }
 
-    /// The outcome of the finding is entered at the path; a cut's path is shorter than 48. An `Err` leaves the version as it
-    /// was.
-    pub fn add(&mut self, alloc: Global, path: Path, f: Finding) -> Result<(), TreeErr>
+    /// The outcome of the finding is entered at the path; a cut's path is shorter than 48. It gives the two cells that a cut
+    /// makes, Ge first. All memory is taken before anything changes: an `Err` leaves the version as it was.
+    pub fn add(
+        &mut self,
+        alloc: Global,
+        path: Path,
+        f: Finding,
+    ) -> Result<Option<(Pending, Pending)>, TreeErr>
         requires { IsShortCut path f.outcome }
         ensures may { OnOk result (MayEnter self.old path f) }
         ensures entered { OnOk result (self.new ≡ with_entry self.old path f.outcome) }
+        ensures parts { IfOk result (λ parts. cells_from parts ≡ map_list (cell_in self.new) (parts_by path f.outcome)) }
         ensures refused { IfErr result (λ e. IsTreeErr self.old path f e) }
         ensures same { OnErr result (self.new ≡ self.old) }
     {
-        add_to(&mut self.nodes, alloc, &path, f)?;
+        let parts = add_to(&mut self.nodes, alloc, &path, f)?;
         self.count += 1;
-        Ok(())
+        Ok(parts)
     }
 
     /// The version with the outcome of the finding entered at the path; a cut's path is shorter than 48. The refusals but
@@ -117,7 +132,7 @@ impl Version {
             Ok(nodes) => nodes,
             Err(NoMemory) => return Err(TreeErr::NoMemory(f)),
         };
-        add_to(&mut nodes, alloc, &path, f)?;
+        let _parts = add_to(&mut nodes, alloc, &path, f)?;
         Ok(Version {
             nodes,
             count: self.count + 1,

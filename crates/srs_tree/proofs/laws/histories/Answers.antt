@@ -4,6 +4,7 @@ use Rattle.srs_tree.proofs.OnePlanLemmas.{one_plan}
 use Rattle.srs_tree.proofs.PartitionAll.{IsPartition-legal}
 use Rattle.srs_tree.proofs.PlannedWhole.{IsWhole-planned, IsInRounds-planned}
 use Rattle.srs_tree.proofs.StandsLemmas.{Stands-some, Stands-once, Stands-append}
+use Rattle.srs_tree.proofs.QueueLemmas.{queue_open, done}
 use Rattle.srs_tree.proofs.laws.histories.Goals as goal
 
 pub returns : goal.returns
@@ -14,5 +15,7 @@ returns c = record {
       let t = Stands-some Root W H legal in
       (t.0, t.1, λ w s. Stands-once Root H H w t.0 s t.1 (λ p. refl));
   grows = Stands-append;
+  queue = queue_open;
+  ends = done;
   whole = λ Root L H planned each. (IsWhole-planned Root L H planned each, IsInRounds-planned Root L H planned);
 }

@@ -1,0 +1,21 @@
+// Cells without an event.
+use srs_cell::Cell;
+use srs_path::Path;
+use std::marker::Model;
+use std::sync::Arc;
+
+/// A cell without an event: its path, and its region, which the tree shares.
+#[derive(Drop)]
+pub struct Pending {
+    pub path: Path,
+    pub cell: Arc<Cell>,
+}
+
+impl Model for Pending {
+    ghost use Rattle.std.specs.Arc.{arc_value};
+    ghost use Rattle.srs_tree.specs.Queue.{WaitingCell};
+
+    ghost Value = { WaitingCell };
+
+    ghost view = { λ p. record { path = p.path; region = arc_value p.cell } };
+}
