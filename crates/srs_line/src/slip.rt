@@ -1,4 +1,6 @@
 // What is wrong with a text.
+ghost use Rattle.std.specs.Prelude.{◌≡◌};
+ghost use Rattle.srs_line.specs.Refusal.{slip_word};
 
 /// What is wrong with a line.
 #[derive(Clone, Copy, Debug, PartialEq, Eq)]
@@ -21,6 +23,25 @@ pub enum Slip {
     Turn,
     /// A byte follows the last line.
     Tail,
+}
+
+impl Slip {
+    /// The word that a refusal prints.
+    pub fn word(self) -> &'static [u8]
+        ensures { result.now ≡ slip_word self }
+    {
+        match self {
+            Slip::Missing => b"missing",
+            Slip::Word => b"word",
+            Slip::Number => b"number",
+            Slip::Version => b"version",
+            Slip::Count => b"count",
+            Slip::Range => b"range",
+            Slip::Order => b"order",
+            Slip::Turn => b"turn",
+            Slip::Tail => b"tail",
+        }
+    }
 }
 
 /// Why a text was refused.
