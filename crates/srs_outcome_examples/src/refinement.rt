@@ -1,44 +1,23 @@
 // The outcomes of cells, and the grid lines that cut what isn't small.
 ghost use Rattle.std.specs.Prelude.{◌≤◌};
 
-use crate::cells::{CORNER, cell_of};
+use crate::parts::{
+    CORNER, Cut, DOWN, LEFT, OPEN_CORNER, OVER, RIGHT, SPLIT, UNDER, UP, cell_of, part,
+};
 use srs_cell::Cell;
 use srs_grid::line;
-use srs_path::{Cause, Last, Outcome, Why};
-use srs_plane::Kind;
+use srs_path::{Cause, Last, Outcome, Side, Why};
 use srs_refine::refine;
 use std::alloc::Global;
 use std::test::Fail;
 
-// The triangle (-1/8, 0), (0, -1/8), (1/8, 0).
-pub const SPLIT: [(i64, i64, i64); 3] = [(-1, 0, 8), (0, -1, 8), (1, 0, 8)];
-
-// The two sides of y = 0, x = 0 and x + y = 0.
-const UP: (i64, i64, i64, Kind) = (0, 1, 0, Kind::Ge);
-
-const DOWN: (i64, i64, i64, Kind) = (0, -1, 0, Kind::Gt);
-
-const RIGHT: (i64, i64, i64, Kind) = (1, 0, 0, Kind::Ge);
-
-const LEFT: (i64, i64, i64, Kind) = (-1, 0, 0, Kind::Gt);
-
-const OVER: (i64, i64, i64, Kind) = (1, 1, 0, Kind::Ge);
-
-const UNDER: (i64, i64, i64, Kind) = (-1, -1, 0, Kind::Gt);
-
-// A part of the triangle.
-pub fn part(alloc: Global, halves: &[(i64, i64, i64, Kind)]) -> Result<Cell, Fail> {
-    let cell = cell_of(alloc, &SPLIT, Kind::Ge, halves)?.ok_or("it has a point")?;
-    Ok(cell)
-}
-
 // How many witnesses the part has, where it is inside.
 fn inside(
     alloc: Global,
-    halves: &[(i64, i64, i64, Kind)],
+    cuts: &[Cut],
     last: Option<Last>,
 ) -> Result<Option<u32>, Fail> {
-    let finding = refine(alloc, &part(alloc, halves)?, last, 16)?;
+    let finding = refine(alloc, &part(alloc, SPLIT, cuts)?, last, 16)?;
     match finding.outcome() {
         Outcome::Inside(ranks) => Ok(Some(ranks.len())),
         _ => Ok(None),
@@ -48,10 +27,10 @@ fn inside(
 // The length and the first entry of the cycle of the part, where it is outside.
 fn outside(
     alloc: Global,
-    halves: &[(i64, i64, i64, Kind)],
+    cuts: &[Cut],
     last: Option<Last>,
 ) -> Result<Option<(u32, i64)>, Fail> {
-    let finding = refine(alloc, &part(alloc, halves)?, last, 16)?;
+    let finding = refine(alloc, &part(alloc, SPLIT, cuts)?, last, 16)?;
     match finding.outcome() {
         Outcome::Outside(cycle) => Ok(Some((cycle.len(), cycle.entry(0)))),
         _ => Ok(None),
@@ -59,8 +38,8 @@ fn outside(
 }
 
 // The numbers of the form that cuts the part, where no limit is spent.
-fn cut(alloc: Global, halves: &[(i64, i64, i64, Kind)]) -> Result<Option<(i64, i64, i64)>, Fail> {
-    let finding = refine(alloc, &part(alloc, halves)?, None, 16)?;
+fn cut(alloc: Global, cuts: &[Cut]) -> Result<Option<(i64, i64, i64)>, Fail> {
+    let finding = refine(alloc, &part(alloc, SPLIT, cuts)?, None, 16)?;
     match finding.outcome() {
         Outcome::Cut(form) => Ok(Some(form.parts())),
         _ => Ok(None),
@@ -119,7 +98,7 @@ fn outside_cells(rt: HostRuntime) -> Result<(), Fail> {
 #[test]
 fn left_cells(rt: HostRuntime) -> Result<(), Fail> {
     let alloc = rt.alloc();
-    let root = part(alloc, &[])?;
+    let root = cell_of(alloc, SPLIT)?;
     assert_eq!(rt;
         cause(alloc, &root, Last::Depth, 16)?,
         Some(Cause::Depth(Why::Cycle))
@@ -140,18 +119,29 @@ fn left_cells(rt: HostRuntime) -> Result<(), Fail> {
 fn grid_lines(rt: HostRuntime) -> Result<(), Fail> {
     let alloc = rt.alloc();
     // x = 0 goes before y = 0
-    assert_eq!(rt; grid_line(&part(alloc, &[])?), Some((1, 0, 0)));
+    assert_eq!(rt; grid_line(&cell_of(alloc, SPLIT)?), Some((1, 0, 0)));
     // x is below 1/8 and y below 0 here
-    assert_eq!(rt; grid_line(&part(alloc, &[RIGHT, DOWN])?), Some((16, 0, -1)));
+    assert_eq!(rt;
+        grid_line(&part(alloc, SPLIT, &[RIGHT, DOWN])?),
+        Some((16, 0, -1))
+    );
     // the closed corner has points with x = 1/8, the open one doesn't
-    let closed = cell_of(alloc, &CORNER, Kind::Ge, &[])?.ok_or("it has a point")?;
-    assert_eq!(rt; grid_line(&closed), Some((8, 0, -1)));
-    let open = cell_of(alloc, &CORNER, Kind::Gt, &[])?.ok_or("it has a point")?;
-    assert_eq!(rt; grid_line(&open), Some((16, 0, -1)));
+    assert_eq!(rt; grid_line(&cell_of(alloc, CORNER)?), Some((8, 0, -1)));
+    assert_eq!(rt; grid_line(&cell_of(alloc, OPEN_CORNER)?), Some((16, 0, -1)));
     // no line divides a single point
-    let point = cell_of(alloc, &CORNER, Kind::Ge, &[(-1, -1, 0, Kind::Ge)])?.ok_or(
-        "it is a point",
-    )?;
+    let point = part(alloc, CORNER, &[((-1, -1, 0), Side::Ge)])?;
     assert_eq!(rt; grid_line(&point), None);
+    Ok(())
+}
+
+#[test]
+fn copies_of_the_root(rt: HostRuntime) -> Result<(), Fail> {
+    let alloc = rt.alloc();
+    let root = cell_of(alloc, SPLIT)?;
+    let region = root.region().copy(alloc)?;
+    assert!(rt; region.same(root.region()));
+    let cell = root.copy(alloc)?;
+    assert!(rt; cell.region().same(root.region()));
+    assert_eq!(rt; cell.sample(), root.sample());
     Ok(())
 }

@@ -1,13 +1,12 @@
 // Witness sets, their graphs, and what a cycle does at the points of a cell.
 ghost use Rattle.std.specs.Prelude.{◌≤◌};
 
-use crate::cells::{CORNER, cell_of};
+use crate::parts::{CORNER, CYCLE_ONE, ORIGIN, cell_of, part};
 use srs_cell::Cell;
 use srs_cut::{Judged, cutout, judge};
 use srs_graph::Graph;
 use srs_num::{Pairs, V2};
-use srs_path::{Cycle, Outcome};
-use srs_plane::Kind;
+use srs_path::{Cycle, Outcome, Side};
 use srs_text::Nums;
 use srs_wit::{Big, WitErr, witnesses};
 use std::alloc::Global;
@@ -16,20 +15,8 @@ use std::test::Fail;
 // The most witnesses that a cell may have.
 const MOST: u32 = 16384;
 
-// The triangle (-1/2, -1/4), (-1/4, -1/2), (-1/4, -1/4), which the cycle 1 covers.
-const CYCLE_ONE: [(i64, i64, i64); 3] = [(-2, -1, 4), (-1, -2, 4), (-1, -1, 4)];
-
-// A triangle round (0, 0).
-const ORIGIN: [(i64, i64, i64); 3] = [(-1, -1, 8), (1, -1, 8), (0, 1, 8)];
-
 fn pair(a: i64, b: i64) -> V2 {
     V2 { a, b }
-}
-
-// The cell of a triangle with its edges.
-fn closed(alloc: Global, corners: &[(i64, i64, i64)]) -> Result<Cell, Fail> {
-    let cell = cell_of(alloc, corners, Kind::Ge, &[])?.ok_or("it has a point")?;
-    Ok(cell)
 }
 
 fn graph_of(alloc: Global, cell: &Cell) -> Result<Graph, Fail> {
@@ -90,7 +77,7 @@ fn failure(cell: &Cell, c: &Cycle) -> Option<(u32, Option<(i64, i64, i64)>)> {
 #[test]
 fn nine_witnesses(rt: HostRuntime) -> Result<(), Fail> {
     let alloc = rt.alloc();
-    let corner = closed(alloc, &CORNER)?;
+    let corner = cell_of(alloc, CORNER)?;
     let nine = [
         pair(-1, -1),
         pair(-1, 0),
@@ -116,7 +103,7 @@ fn nine_witnesses(rt: HostRuntime) -> Result<(), Fail> {
 #[test]
 fn one_witness_too_many(rt: HostRuntime) -> Result<(), Fail> {
     let alloc = rt.alloc();
-    let corner = closed(alloc, &CORNER)?;
+    let corner = cell_of(alloc, CORNER)?;
     let found = different_witnesses(alloc, &corner, 8).ok_or("eight are too few")?;
     assert_eq!(rt; found.len(), 9);
     assert!(rt; are_different(found.as_slice()));
@@ -127,17 +114,15 @@ fn one_witness_too_many(rt: HostRuntime) -> Result<(), Fail> {
 fn single_points(rt: HostRuntime) -> Result<(), Fail> {
     let alloc = rt.alloc();
     // at (0, 0) each pair (a, b) goes to (b, 0)
-    let origin = cell_of(alloc, &CORNER, Kind::Ge, &[(-1, -1, 0, Kind::Ge)])?.ok_or(
-        "it is a point",
-    )?;
+    let origin = part(alloc, CORNER, &[((-1, -1, 0), Side::Ge)])?;
     let five = [pair(-1, 0), pair(0, -1), pair(0, 0), pair(0, 1), pair(1, 0)];
     match witnesses(alloc, &origin, 5) {
         Ok(set) => assert_eq!(rt; set.as_slice(), five.as_slice()),
         Err(_) => Err("five are allowed")?,
     }
     // at (4, 4) the entries grow
-    let corners = [(4, 4, 1), (0, 4, 1), (4, 0, 1)];
-    let far = cell_of(alloc, &corners, Kind::Ge, &[(1, 1, -8, Kind::Ge)])?.ok_or("it is a point")?;
+    let corner = "polygon 3\nge 4 4 1\nge 0 4 1\nge 4 0 1\nend\n";
+    let far = part(alloc, corner, &[((1, 1, -8), Side::Ge)])?;
     match witnesses(alloc, &far, MOST) {
         Err(WitErr::Large(Big::Wide(w))) => {
             let widest: i64 = 1 << 37;
@@ -151,7 +136,7 @@ fn single_points(rt: HostRuntime) -> Result<(), Fail> {
 #[test]
 fn ranks_of_a_corner(rt: HostRuntime) -> Result<(), Fail> {
     let alloc = rt.alloc();
-    let graph = graph_of(alloc, &closed(alloc, &CORNER)?)?;
+    let graph = graph_of(alloc, &cell_of(alloc, CORNER)?)?;
     assert_eq!(rt; graph.core(alloc)?.len(), 0);
     assert!(rt; graph.cycle(alloc)?.is_none());
     let ranks = graph.ranks(alloc)?.ok_or("no walk goes on")?;
@@ -183,7 +168,7 @@ fn ranks_of_a_corner(rt: HostRuntime) -> Result<(), Fail> {
 #[test]
 fn a_pair_that_stays(rt: HostRuntime) -> Result<(), Fail> {
     let alloc = rt.alloc();
-    let graph = graph_of(alloc, &closed(alloc, &CYCLE_ONE)?)?;
+    let graph = graph_of(alloc, &cell_of(alloc, CYCLE_ONE)?)?;
     assert!(rt; graph.ranks(alloc)?.is_none());
     // the least pair of the core only leads to the cycle
     let core = graph.core(alloc)?;
@@ -204,7 +189,7 @@ fn a_pair_that_stays(rt: HostRuntime) -> Result<(), Fail> {
 #[test]
 fn a_core_with_cycles(rt: HostRuntime) -> Result<(), Fail> {
     let alloc = rt.alloc();
-    let graph = graph_of(alloc, &closed(alloc, &ORIGIN)?)?;
+    let graph = graph_of(alloc, &cell_of(alloc, ORIGIN)?)?;
     // all but (0, 0): (1, 0) and (0, 1), (-1, 0) and (0, -1) lead to each other, and so on
     assert_eq!(rt; graph.core(alloc)?.len(), 8);
     let cycle = graph.cycle(alloc)?.ok_or("there is a core")?;
@@ -228,11 +213,11 @@ fn the_cutout_of_a_cycle(rt: HostRuntime) -> Result<(), Fail> {
 fn what_a_cycle_covers(rt: HostRuntime) -> Result<(), Fail> {
     let alloc = rt.alloc();
     let one = cycle_of(alloc, &[1])?;
-    assert_eq!(rt; failure(&closed(alloc, &CYCLE_ONE)?, &one), None);
+    assert_eq!(rt; failure(&cell_of(alloc, CYCLE_ONE)?, &one), None);
     // x + y is at least 0 in the corner, and of both signs round (0, 0)
-    assert_eq!(rt; failure(&closed(alloc, &CORNER)?, &one), Some((0, None)));
+    assert_eq!(rt; failure(&cell_of(alloc, CORNER)?, &one), Some((0, None)));
     assert_eq!(rt;
-        failure(&closed(alloc, &ORIGIN)?, &one),
+        failure(&cell_of(alloc, ORIGIN)?, &one),
         Some((0, Some((1, 1, 0))))
     );
     Ok(())

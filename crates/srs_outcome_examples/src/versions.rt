@@ -1,23 +1,16 @@
 // Versions of a tree, and why they don't take a finding.
-use crate::cells::cell_of;
-use crate::refinement::{SPLIT, part};
+use crate::parts::{Cut, DOWN, SPLIT, UP, cell_of, part};
 use srs_path::{Finding, Outcome, Path, Side};
-use srs_plane::Kind;
 use srs_refine::refine;
 use srs_tree::{TreeErr, Version};
 use std::alloc::Global;
 use std::test::Fail;
 
-// The two sides of y = 0.
-const GE: (i64, i64, i64, Kind) = (0, 1, 0, Kind::Ge);
-
-const LT: (i64, i64, i64, Kind) = (0, -1, 0, Kind::Gt);
-
 // Why a finding isn't entered.
 #[derive(Clone, Copy, Debug, PartialEq, Eq, Drop)]
 enum Refusal {
     NotThere(u32),
-    Done,
+    Done(Option<(i64, i64, i64)>),
     OtherCell(u32),
     NoMemory,
 }
@@ -27,13 +20,13 @@ fn child(path: &Path, side: Side) -> Result<Path, Fail> {
     Ok(longer)
 }
 
-fn finding_of(alloc: Global, halves: &[(i64, i64, i64, Kind)]) -> Result<Finding, Fail> {
-    let finding = refine(alloc, &part(alloc, halves)?, None, 16)?;
+fn finding_of(alloc: Global, cuts: &[Cut]) -> Result<Finding, Fail> {
+    let finding = refine(alloc, &part(alloc, SPLIT, cuts)?, None, 16)?;
     Ok(finding)
 }
 
 fn start(alloc: Global) -> Result<Version, Fail> {
-    let cell = cell_of(alloc, &SPLIT, Kind::Ge, &[])?.ok_or("it has a point")?;
+    let cell = cell_of(alloc, SPLIT)?;
     if cell.region().len() > 16 {
         Err("it has three halves")?;
     }
@@ -53,11 +46,19 @@ fn with(
     Ok(version.with(alloc, path, f))
 }
 
-// What the refusal says, with the length of the cell that is named, or the number of its halves.
+// The numbers of the form that cuts.
+fn cut(outcome: &Outcome) -> Option<(i64, i64, i64)> {
+    match outcome {
+        Outcome::Cut(form) => Some(form.parts()),
+        _ => None,
+    }
+}
+
+// What the refusal says: the length of the cell that is named, the form that cuts it, or the number of its halves.
 fn kind_of(refused: &TreeErr) -> Refusal {
     match refused {
         TreeErr::NotThere(longest) => Refusal::NotThere(longest.len()),
-        TreeErr::Done(_) => Refusal::Done,
+        TreeErr::Done(outcome) => Refusal::Done(cut(outcome)),
         TreeErr::OtherCell(cell) => Refusal::OtherCell(cell.region().len()),
         TreeErr::NoMemory(_) => Refusal::NoMemory,
     }
@@ -68,9 +69,9 @@ fn why_not(
     alloc: Global,
     version: &Version,
     path: Path,
-    halves: &[(i64, i64, i64, Kind)],
+    cuts: &[Cut],
 ) -> Result<Option<Refusal>, Fail> {
-    let finding = finding_of(alloc, halves)?;
+    let finding = finding_of(alloc, cuts)?;
     match with(alloc, version, path, finding)? {
         Ok(_) => Ok(None),
         Err(refused) => Ok(Some(kind_of(&refused))),
@@ -82,9 +83,9 @@ fn entered(
     alloc: Global,
     version: &Version,
     path: Path,
-    halves: &[(i64, i64, i64, Kind)],
+    cuts: &[Cut],
 ) -> Result<Version, Fail> {
-    let finding = finding_of(alloc, halves)?;
+    let finding = finding_of(alloc, cuts)?;
     match with(alloc, version, path, finding)? {
         Ok(next) => Ok(next),
         Err(_) => Err("it is entered")?,
@@ -93,8 +94,8 @@ fn entered(
 
 fn is_cut(version: &Version, path: Path) -> bool {
     match version.outcome(path) {
-        Some(Outcome::Cut(_)) => true,
-        _ => false,
+        Some(outcome) => cut(outcome).is_some(),
+        None => false,
     }
 }
 
@@ -106,7 +107,7 @@ fn entries(rt: HostRuntime) -> Result<(), Fail> {
     assert_eq!(rt; first.count(), 0);
     assert!(rt; !is_cut(&first, root));
     let second = entered(alloc, &first, root, &[])?;
-    let third = entered(alloc, &second, child(&root, Side::Ge)?, &[GE])?;
+    let third = entered(alloc, &second, child(&root, Side::Ge)?, &[UP])?;
     assert_eq!(rt; (first.count(), second.count(), third.count()), (0, 1, 2));
     assert!(rt; is_cut(&third, child(&root, Side::Ge)?));
     assert!(rt; !is_cut(&third, child(&root, Side::Lt)?));
@@ -122,7 +123,10 @@ fn refused_entries(rt: HostRuntime) -> Result<(), Fail> {
     let alloc = rt.alloc();
     let root = Path::root();
     let version = entered(alloc, &start(alloc)?, root, &[])?;
-    assert_eq!(rt; why_not(alloc, &version, root, &[])?, Some(Refusal::Done));
+    assert_eq!(rt;
+        why_not(alloc, &version, root, &[])?,
+        Some(Refusal::Done(Some((0, 1, 0))))
+    );
     // its Ge part has four halves, and is no cut yet
     let upper = child(&root, Side::Ge)?;
     assert_eq!(rt;
@@ -130,9 +134,9 @@ fn refused_entries(rt: HostRuntime) -> Result<(), Fail> {
         Some(Refusal::NotThere(1))
     );
     assert_eq!(rt;
-        why_not(alloc, &version, upper, &[LT])?,
+        why_not(alloc, &version, upper, &[DOWN])?,
         Some(Refusal::OtherCell(4))
     );
-    assert_eq!(rt; why_not(alloc, &version, upper, &[GE])?, None);
+    assert_eq!(rt; why_not(alloc, &version, upper, &[UP])?, None);
     Ok(())
 }
