@@ -1,7 +1,8 @@
 -- The events of a whole tree in preorder, as a certificate lists them.
-use Rattle.std.specs.Prelude.{◌≡◌, ⊤, ◌<◌, ◌≤◌, List, [], ◌∷◌, ◌++◌, length}
+use Rattle.std.specs.Prelude.{◌≡◌, ⊤, ℕ, ◌<◌, ◌≤◌, List, [], ◌∷◌, ◌++◌, length}
 use Rattle.std.specs.List.{All}
 use Rattle.srs_path.specs.declared.paths.Side.{Side}
+use Rattle.srs_path.specs.declared.outcomes.Outcome.{Outcome}
 use Rattle.srs_path.specs.declared.outcomes.Outcome.TheVariants.{Inside, Outside, Cut, Left}
 use Rattle.srs_path.specs.Views.{Budget, Entry}
 use Rattle.srs_tree.specs.Tree.{History}
@@ -19,12 +20,17 @@ ListsTrees (path ∷ waiting) (e ∷ H) = (e.path ≡ path) × ListsTrees (parts
 abbrev pub ListsWholeTree : History → Type 0
 ListsWholeTree H = ListsTrees ([] ∷ []) H
 
--- the event keeps to the limits: a cut above the greatest depth, and no more witnesses or entries than are allowed
+-- the outcome of a cell at this depth keeps to the limits: a cut above the greatest depth, and no more witnesses or
+-- entries than are allowed
+abbrev pub AllowsAt : Budget → ℕ → Outcome → Type 0
+AllowsAt b depth (Inside ranks) = length ranks ≤ b.wits
+AllowsAt b depth (Outside cycle) = length cycle ≤ b.wits
+AllowsAt b depth (Cut h) = depth < b.depth
+AllowsAt b depth (Left cause) = ⊤
+
+-- the event keeps to the limits
 abbrev pub KeepsTo : Budget → Entry → Type 0
-KeepsTo b (record { path = path; outcome = Inside ranks }) = length ranks ≤ b.wits
-KeepsTo b (record { path = path; outcome = Outside cycle }) = length cycle ≤ b.wits
-KeepsTo b (record { path = path; outcome = Cut h }) = length path < b.depth
-KeepsTo b (record { path = path; outcome = Left cause }) = ⊤
+KeepsTo b e = AllowsAt b (length e.path) e.outcome
 
 -- H has no more cells than are allowed, and each of its events keeps to the limits
 pub record IsWithin (b : Budget) (H : History) : Type 0 where
