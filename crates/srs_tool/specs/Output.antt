@@ -20,7 +20,7 @@ use Rattle.srs_tool.specs.declared.status.Status.TheVariants.{Done, Bad, Usage, 
 
 -- the line of a refusal: the line of the first slip, and the slip
 abbrev pub refusal_line : ℕ → Slip → List ℕ
-refusal_line line slip = codes "refused " ++ signed_decimal (pos line) ++ codes " " ++ slip_word slip ++ codes "\n"
+refusal_line line slip = codes "refused line " ++ signed_decimal (pos line) ++ codes " " ++ slip_word slip ++ codes "\n"
 
 -- the line that refuses an input that is too long
 abbrev pub refused_long : List ℕ

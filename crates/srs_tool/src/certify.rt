@@ -47,7 +47,8 @@ fn refuse<K: Sink>(
     ensures told { Tells (Certify limits.now) input.now result (K.got sink.old) (K.got sink.new) (K.faults sink.old) (K.faults sink.new) }
     ensures memory { result ≡ Status.NoMemory → sink.new ≡ sink.old }
 {
-    let _ = (limits, input);
+    let _limits = limits;
+    let _input = input;
     match refusal(alloc, line, slip) {
         Ok(text) => say(Status::Refused, sink, text.as_slice()),
         Err(_) => Status::NoMemory,

@@ -23,7 +23,7 @@ pub fn refusal(alloc: Global, line: u32, slip: Slip) -> Result<Bytes, NoMemory>
     ensures { IfOk result (λ text. text ≡ refusal_line line slip) }
 {
     let mut text = Bytes::new(alloc);
-    text.extend(b"refused ")?;
+    text.extend(b"refused line ")?;
     put_number(&mut text, line as i128)?;
     text.extend(b" ")?;
     text.extend(slip.word())?;

@@ -9,6 +9,7 @@ use srs_path::Limits;
 use srs_text::number;
 
 /// What the words ask for.
+#[derive(Drop)]
 pub enum Command {
     /// To divide the polygon that is read, and print its certificate.
     Certify(Limits),
