@@ -1,3 +1,4 @@
 pub mod WordLemmas
 pub mod Telling
 pub mod Completing
+pub mod RoundSteps

@@ -21,7 +21,7 @@ use Rattle.srs_path.specs.declared.outcomes.Outcome.{Outcome}
 use Rattle.srs_path.specs.declared.outcomes.Outcome.TheVariants.{Inside, Outside, Cut, Left}
 use Rattle.srs_path.specs.declared.limits.Last.{Last}
 use Rattle.srs_path.specs.declared.limits.Last.TheVariants.{Depth, Cells}
-use Rattle.srs_path.specs.Views.{Budget}
+use Rattle.srs_path.specs.Views.{Budget, last_of}
 use Rattle.srs_path.specs.Views.{Entry}
 use Rattle.srs_path.specs.Refinement.{Refines}
 use Rattle.srs_tree.specs.Tree.{History, path_eq, outcome_at, IsCellOf}
@@ -209,6 +209,14 @@ last_room false c n e = by_test (nat_lt c n) refl e
     by_test : (t : Bool) → nat_lt c n ≡ t → ◌≡◌ {A = Option Last} (if t then Some Cells else None) None → n ≤ c
     by_test true q e = absurd (none-some Cells (sym e))
     by_test false q e = lt_false q
+
+-- where no limit is spent, there is room for two cells more for each that is pending
+pub last_fits : (L : Budget) (k c n : ℕ) → last_of L k c n ≡ None → c + 2 * n ≤ L.cells
+last_fits L k c n e = last_room (k == L.depth) L.cells (c + 2 * n) e
+
+-- at the greatest depth a limit is spent
+pub last_at_depth : (L : Budget) (k c n : ℕ) → k ≡ L.depth → last_of L k c n ≡ None → ⊥
+last_at_depth L k c n q e = none-some Depth (sym e ∙ ap (λ (b : Bool). if b then Some Depth else (if nat_lt L.cells (c + 2 * n) then Some Cells else None)) ((Decides-eqb k L.depth).1 q))
 
 none_or_not : (x : Option Last) → (x ≡ None) ⊎ (x ≡ None → ⊥)
 none_or_not None = inl refl
