@@ -2,3 +2,4 @@ pub mod WordLemmas
 pub mod Telling
 pub mod Completing
 pub mod RoundSteps
+pub mod Certifying
