@@ -39,6 +39,7 @@ module _ (n seats : ℕ) where
   abbrev Rule : St → Type 0
   Rule = IsClaimTable n seats
 
+  -- the first table keeps the rule
   pub starts : (xs : List S) → n < 4294967296 → 0 < seats → seats ≤ 4294967296 → Rule (opening (0 ∷ []) xs (first_view n seats))
   starts xs few some_seat small = record {
     word = 0;
@@ -59,6 +60,7 @@ module _ (n seats : ℕ) where
   abbrev V : Type 0
   V = View
 
+  -- what the rule says of a seat at this word
   abbrev fits : ℕ → ℕ → V → Type 0
   fits word j v = Fits word n v.n v.ended v.role
 
@@ -106,6 +108,7 @@ module _ (n seats : ℕ) where
   fits_word : (s : St) (r : Rule s) → (r.word + 1) % 2 ^ 64 ≡ r.word + 1
   fits_word s r = let a = total_ends-le s.views in let b = r.reach in let c = r.room in let d = r.few in let e = r.small in mod-eq_of_lt (omega arith)
 
+  -- the addition, by a seat that has not ended
   draws_at : (slots id spare : ℕ) (drawn : List ℕ) → Allows Rule slots id (knows Live n drawn false spare, []) 0 (λ k. (k + 1) % 2 ^ 64) (Drew (step slots 0 1 0 none) (knows Live n drawn false spare, []))
   draws_at slots id spare drawn s r long at lt =
       let v : V = knows Live n drawn false spare in
@@ -117,12 +120,14 @@ module _ (n seats : ℕ) where
       let f : r.word + 1 ≡ (get_or s.words 0 0 + 1) % 2 ^ 64 = sym (fits_word s r) ∙ ap (λ (k : ℕ). (k + 1) % 2 ^ 64) e in
       subst (λ (x : ℕ × ℕ). P x.0 x.1) (λ i. (e i, f i)) here
 
+  -- the same of each such seat
   pub draws : (slots id : ℕ) (m : M) → m.0.role ≡ Live → m.0.ended ≡ false → m.1 ≡ [] → Allows Rule slots id m 0 (λ k. (k + 1) % 2 ^ 64) (Drew (step slots 0 1 0 none) m)
   draws slots id m live going none_out s r long at lt =
       let own : m.0.n ≡ n = (subst (Fits r.word n m.0.n m.0.ended) live (r.each id m.0 at)).0 in
       let is : (knows Live n m.0.drawn false m.0.spare, []) ≡ m = λ i. (record { role = sym live i; n = sym own i; drawn = m.0.drawn; ended = sym going i; spare = m.0.spare }, sym none_out i) in
       (subst (λ (m : M). Allows Rule slots id m 0 (λ k. (k + 1) % 2 ^ 64) (Drew (step slots 0 1 0 none) m)) is (draws_at slots id m.0.spare m.0.drawn)) s r long at lt
 
+  -- a seat is split off
   splits_at : (id m spare : ℕ) (drawn : List ℕ) (ended : Bool) → 0 < spare → Splits Rule id (knows Live m drawn ended spare) (knows Live m drawn ended (spare - 1)) (knows Live m [] false 0)
   splits_at id m spare drawn ended more s r at =
       let v : V = knows Live m drawn ended spare in
@@ -143,6 +148,7 @@ module _ (n seats : ℕ) where
   pub splits : (id : ℕ) (v : V) → v.role ≡ Live → 0 < v.spare → Splits Rule id v (with_less_spare v) (new_view v)
   splits id v live more = subst (λ (v : V). Splits Rule id v (with_less_spare v) (new_view v)) (λ i. record { role = sym live i; n = v.n; drawn = v.drawn; ended = v.ended; spare = v.spare }) (splits_at id v.n v.spare v.drawn v.ended more)
 
+  -- a seat is taken in
   joins_at : (id other m l spare left : ℕ) (drawn taken : List ℕ) (ended gone : Bool)
       → Joins Rule id (knows Live m drawn ended spare) other (knows Live l taken gone left) (knows (Joining taken) m drawn ended (spare + left)) spent_view
   joins_at id other m l spare left drawn taken ended gone s r at apart there =
@@ -167,6 +173,7 @@ module _ (n seats : ℕ) where
       (λ i. (record { role = sym a i; n = v.n; drawn = v.drawn; ended = v.ended; spare = v.spare }, record { role = sym b i; n = u.n; drawn = u.drawn; ended = u.ended; spare = u.spare }))
       (joins_at id other v.n u.n v.spare u.spare v.drawn u.drawn v.ended u.ended)
 
+  -- the load behind a join
   compares_at : (slots id m spare : ℕ) (drawn taken : List ℕ) (ended : Bool)
       → Allows Rule slots id (knows (Joining taken) m drawn ended spare, []) 0 (λ k. k) (Compared (step slots 0 0 0 none) (knows (Joining taken) m drawn ended spare, []))
   compares_at slots id m spare drawn taken ended s r long at lt =

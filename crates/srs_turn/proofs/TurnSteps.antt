@@ -3,7 +3,7 @@ use Rattle.std.proofs.Common.{◌≡◌, ◌≢◌, ℕ, zero, suc, ◌<◌, Lis
 use mathlib.Core.Option.{some, none, some-injective, some-ne-none}
 use lib.ListN.{get_elem?}
 use prog.Atomic.{either}
-use Rattle.atomic_table.specs.Table.{State, Me, step, Act, keeps, takes, gives, Valid, carried_after, stepped, Allows, Splits, Joins, opening}
+use Rattle.atomic_table.specs.Table.{State, Me, step, rest, Act, keeps, takes, gives, Valid, carried_after, stepped, Allows, Splits, Joins, opening}
 use Rattle.atomic_table.proofs.Lists.{set_else, at_longer, at_set, set_again, at_snoc}
 use Rattle.srs_turn.specs.declared.view.Role.{Role}
 use Rattle.srs_turn.specs.declared.view.Role.TheVariants.{Idle, Holder, Joining, Spent}
@@ -12,11 +12,22 @@ use Rattle.srs_turn.specs.Prefixes.{Begins, longer}
 use Rattle.srs_turn.specs.TurnWords.{knows, spent_view, Fits, IsHeldBy, joining_view, IsIdle, Counted, Freed, Compared, first_view, IsHome, IsTurnTable, Tried, Grew}
 use Rattle.srs_turn.proofs.PrefixLemmas.{begins_refl, begins_trans, begins_either, longer_begins}
 
+-- a seat with nothing in hand is no holder
 not_holder_idle : {E : Type 0} → ◌≡◌ {A = Role E} Idle Holder → ⊥
 not_holder_idle e = absurd (cc)
 
+-- nor is one that took in another
 not_holder_both : {E : Type 0} (other : List E) → ◌≡◌ {A = Role E} (Joining other) Holder → ⊥
 not_holder_both other e = absurd (cc)
+
+module _ {B : Type 0} where
+  -- the one slot that was taken is the last
+  pub slot_last : (slots : List (ℕ × Option B)) (value : Option B) → slots ≡ (0, value) ∷ [] → slots ≡ (0, value) ∷ rest slots
+  slot_last slots value e = e ∙ ap (λ others. (0, value) ∷ others) (sym (ap rest e))
+
+  -- a seat that has the one slot has it with what was put in
+  pub slot_filled : {V : Type 0} → (old new : Me (Option B) V) (value : Option B) → new ≡ (old.0, (0, value) ∷ rest old.1) → old.1 ≡ (0, None) ∷ [] → new.1 ≡ (0, value) ∷ []
+  slot_filled old new value e one = ap (λ seat. seat.1) e ∙ ap (λ others. (0, value) ∷ rest others) one
 
 module _ {E F : Type 0} where
   -- what every seat but one knows
@@ -25,25 +36,26 @@ module _ {E F : Type 0} where
   each_but P Q vs me w mine others all j v e = ⊎_elim (λ (t : (j ≡ me) × (w ≡ v)). subst (λ (x : ℕ × View E F). Q x.0 x.1) (λ i. (sym t.0 i, t.1 i)) mine)
       (λ (t : (j ≢ me) × (get_elem? vs j ≡ some v)). others j v t.0 (all j v t.1)) (at_set vs me j w v e)
 
-  -- the log grows, and no other seat holds the turn
-  others_fit : (lock lock' who who' j : ℕ) (log log' seen : List E) (f : F) (g : Option F) (role : Role E) → Begins log log' → (lock ≡ 1 → who ≡ j → ⊥)
-      → Fits lock log f who j seen g role → Fits lock' log' f who' j seen g role
-  others_fit lock lock' who who' j log log' seen f g Idle more alone h = (begins_trans seen log log' h.0 more, h.1)
-  others_fit lock lock' who who' j log log' seen f g Holder more alone h = absurd (alone h.0 h.1)
-  others_fit lock lock' who who' j log log' seen f g (Joining other) more alone h = (begins_trans seen log log' h.0 more, begins_trans other log log' h.1 more, h.2)
-  others_fit lock lock' who who' j log log' seen f g Spent more alone h = tt
+  -- the list grows, and no other seat holds the turn
+  others_fit : (lock lock' holder holder' j : ℕ) (list list' seen : List E) (f : F) (g : Option F) (role : Role E) → Begins list list' → (lock ≡ 1 → holder ≡ j → ⊥)
+      → Fits lock list f holder j seen g role → Fits lock' list' f holder' j seen g role
+  others_fit lock lock' holder holder' j list list' seen f g Idle more alone h = (begins_trans seen list list' h.0 more, h.1)
+  others_fit lock lock' holder holder' j list list' seen f g Holder more alone h = absurd (alone h.0 h.1)
+  others_fit lock lock' holder holder' j list list' seen f g (Joining other) more alone h = (begins_trans seen list list' h.0 more, begins_trans other list list' h.1 more, h.2)
+  others_fit lock lock' holder holder' j list list' seen f g Spent more alone h = tt
 
+  -- the view that was put into a place of the list is there
   set_some : (l : List (View E F)) (i : ℕ) (a b : View E F) → get_elem? l i ≡ some b → get_elem? (set l i a) i ≡ some a
   set_some [] i a b e = absurd (some-ne-none b (sym e))
   set_some (x ∷ xs) zero a b e = refl
   set_some (x ∷ xs) (suc i) a b e = set_some xs i a b e
 
   -- another seat holds the turn, so it still does
-  held_other : (lock who me : ℕ) (views : List (View E F)) (v w : View E F) → get_elem? views me ≡ some v → (v.role ≡ Holder → ⊥) → IsHeldBy lock who views → IsHeldBy lock who (set views me w)
-  held_other lock who me views v w at free held one =
+  held_other : (lock holder me : ℕ) (views : List (View E F)) (v w : View E F) → get_elem? views me ≡ some v → (v.role ≡ Holder → ⊥) → IsHeldBy lock holder views → IsHeldBy lock holder (set views me w)
+  held_other lock holder me views v w at free held one =
       let h = held one in
-      let apart : who ≢ me = λ e. free (ap (λ (u : View E F). u.role) (some-injective _ _ (sym at ∙ ap (get_elem? views) (sym e) ∙ h.1)) ∙ h.2) in
-      (h.0, set_else views me who w apart ∙ h.1, h.2)
+      let apart : holder ≢ me = λ e. free (ap (λ (u : View E F). u.role) (some-injective _ _ (sym at ∙ ap (get_elem? views) (sym e) ∙ h.1)) ∙ h.2) in
+      (h.0, set_else views me holder w apart ∙ h.1, h.2)
 
 module _ {B E F : Type 0} (told : B → List E) (fixed : B → F) (f : F) where
   abbrev V : Type 0
@@ -61,9 +73,11 @@ module _ {B E F : Type 0} (told : B → List E) (fixed : B → F) (f : F) where
   abbrev fits : (s : St) → Rule s → ℕ → V → Type 0
   fits s r j v = Fits r.lock r.list f r.holder j v.seen v.fixed v.role
 
+  -- a free turn is not held
   zero_one : ◌≡◌ {A = ℕ} 0 1 → ⊥
   zero_one e = absurd (omega arith)
 
+  -- the first table keeps the rule
   pub starts : (book : B) → fixed book ≡ f → Rule (opening (0 ∷ length (told book) ∷ []) (Some book ∷ []) (first_view told fixed book))
   starts book is = record {
     lock = 0;
@@ -96,15 +110,18 @@ module _ {B E F : Type 0} (told : B → List E) (fixed : B → F) (f : F) where
       same (suc zero) two = ap (λ (ws : List ℕ). set ws 1 (get_or ws 1 0)) r.words
       same (suc (suc i)) two = absurd (omega arith)
 
+  -- the load of the count
   counts_at : (slots id : ℕ) (seen : List E) (g : Option F) → Allows Rule slots id (knows Idle seen g, []) 1 (λ n. n) (Counted (step slots 1 0 0 none) (knows Idle seen g, []))
   counts_at slots id seen g s r long at lt =
       let mine = r.each id (knows Idle seen g) at in
       let w : V = knows Idle r.list g in
       (w, keeps, tt, unmoved s r 1 id [] w (omega arith) (begins_refl r.list, mine.1) (held_other r.lock r.holder id s.views (knows Idle seen g) w at not_holder_idle r.held), ((refl, refl), refl, mine.0, sym (ap (λ (ws : List ℕ). get_or ws 1 0) r.words)))
 
+  -- a seat that holds nothing, by its parts
   as_idle : (m : M) → IsIdle m → (knows Idle m.0.seen m.0.fixed, []) ≡ m
   as_idle m h = λ i. (record { role = sym h.0 i; seen = m.0.seen; fixed = m.0.fixed }, sym h.1 i)
 
+  -- the same of each seat that holds nothing
   pub counts : (slots id : ℕ) (m : M) → IsIdle m → Allows Rule slots id m 1 (λ n. n) (Counted (step slots 1 0 0 none) m)
   counts slots id m h = subst (λ (m : M). Allows Rule slots id m 1 (λ n. n) (Counted (step slots 1 0 0 none) m)) (as_idle m h) (counts_at slots id m.0.seen m.0.fixed)
 
@@ -114,73 +131,81 @@ module _ {B E F : Type 0} (told : B → List E) (fixed : B → F) (f : F) where
       (w : V) × (a : Act (Option B)) × Valid homes m.1 a × Rule (stepped record { words = words; homes = homes; views = views } i (to (get_or words i 0)) id m.1 w a)
       × then (get_or words i 0) (w, carried_after m.1 a)
 
+  -- what the rule says of all seats
   abbrev Each : ℕ → List E → ℕ → List V → Type 0
-  Each lock log who views = (id : ℕ) (v : V) → get_elem? views id ≡ some v → Fits lock log f who id v.seen v.fixed v.role
+  Each lock list holder views = (id : ℕ) (v : V) → get_elem? views id ≡ some v → Fits lock list f holder id v.seen v.fixed v.role
 
-  wins_free : (slots id who : ℕ) (seen log : List E) (g : Option F) (views : List V) (book : B) → told book ≡ log → fixed book ≡ f → Each 0 log who views → get_elem? views id ≡ some (knows Idle seen g)
-      → Goes (0 ∷ length log ∷ []) (some (Some book) ∷ []) views id (knows Idle seen g, []) 0 (λ n. either (n == 0) 1 n) (Tried told fixed (step slots 0 0 1 none) (knows Idle seen g, []))
-  wins_free slots id who seen log g views book lists fixes each at =
+  -- the compare-exchange where the turn is free
+  wins_free : (slots id holder : ℕ) (seen list : List E) (g : Option F) (views : List V) (book : B) → told book ≡ list → fixed book ≡ f → Each 0 list holder views → get_elem? views id ≡ some (knows Idle seen g)
+      → Goes (0 ∷ length list ∷ []) (some (Some book) ∷ []) views id (knows Idle seen g, []) 0 (λ n. either (n == 0) 1 n) (Tried told fixed (step slots 0 0 1 none) (knows Idle seen g, []))
+  wins_free slots id holder seen list g views book lists fixes each at =
       let mine = each id (knows Idle seen g) at in
-      let w : V = knows Holder log g in (
+      let w : V = knows Holder list g in (
         w,
         takes 0 (Some book),
         refl,
         record {
           lock = 1;
-          list = log;
+          list = list;
           holder = id;
           words = refl;
           home = (refl, refl);
           held = λ _. (w, set_some views id w (knows Idle seen g) at, refl);
-          each = each_but (λ j v. Fits 0 log f who j v.seen v.fixed v.role) (λ j v. Fits 1 log f id j v.seen v.fixed v.role) views id w (refl, refl, refl, mine.1)
-              (λ j v other h. others_fit 0 1 who id j log log v.seen f v.fixed v.role (begins_refl log) (λ e _. zero_one e) h) each;
+          each = each_but (λ j v. Fits 0 list f holder j v.seen v.fixed v.role) (λ j v. Fits 1 list f id j v.seen v.fixed v.role) views id w (refl, refl, refl, mine.1)
+              (λ j v other h. others_fit 0 1 holder id j list list v.seen f v.fixed v.role (begins_refl list) (λ e _. zero_one e) h) each;
         },
         (refl, mine.0, (λ _. (refl, (book, refl, lists, mine.1 ∙ ap Some (sym fixes)))), (λ n. absurd (n refl))),
       )
 
-  wins_taken : (slots id who : ℕ) (seen log : List E) (g : Option F) (views : List V) → IsHeldBy 1 who views → Each 1 log who views → get_elem? views id ≡ some (knows Idle seen g)
-      → Goes (1 ∷ length log ∷ []) (none ∷ []) views id (knows Idle seen g, []) 0 (λ n. either (n == 0) 1 n) (Tried told fixed (step slots 0 0 1 none) (knows Idle seen g, []))
-  wins_taken slots id who seen log g views held each at =
+  -- the compare-exchange where the turn is held
+  wins_taken : (slots id holder : ℕ) (seen list : List E) (g : Option F) (views : List V) → IsHeldBy 1 holder views → Each 1 list holder views → get_elem? views id ≡ some (knows Idle seen g)
+      → Goes (1 ∷ length list ∷ []) (none ∷ []) views id (knows Idle seen g, []) 0 (λ n. either (n == 0) 1 n) (Tried told fixed (step slots 0 0 1 none) (knows Idle seen g, []))
+  wins_taken slots id holder seen list g views held each at =
       let mine = each id (knows Idle seen g) at in
       let w : V = knows Idle seen g in
-      let P : ℕ → V → Type 0 = λ j v. Fits 1 log f who j v.seen v.fixed v.role in (
+      let P : ℕ → V → Type 0 = λ j v. Fits 1 list f holder j v.seen v.fixed v.role in (
         w,
         keeps,
         tt,
         record {
           lock = 1;
-          list = log;
-          holder = who;
+          list = list;
+          holder = holder;
           words = refl;
           home = (refl, refl);
-          held = held_other 1 who id views (knows Idle seen g) w at not_holder_idle held;
+          held = held_other 1 holder id views (knows Idle seen g) w at not_holder_idle held;
           each = each_but P P views id w mine (λ j v _ h. h) each;
         },
         (refl, begins_refl seen, (λ e. absurd (zero_one (sym e))), (λ _. refl)),
       )
 
-  wins_from : (slots id who lock : ℕ) (seen log : List E) (g : Option F) (homes : List (mathlib.Core.Option.Option (Option B))) (views : List V) → IsHome told fixed lock log f homes → IsHeldBy lock who views → Each lock log who views
-      → get_elem? views id ≡ some (knows Idle seen g) → Goes (lock ∷ length log ∷ []) homes views id (knows Idle seen g, []) 0 (λ n. either (n == 0) 1 n) (Tried told fixed (step slots 0 0 1 none) (knows Idle seen g, []))
-  wins_from slots id who zero seen log g homes views home held each at =
-      subst (λ (hs : List (mathlib.Core.Option.Option (Option B))). Goes (0 ∷ length log ∷ []) hs views id (knows Idle seen g, []) 0 (λ n. either (n == 0) 1 n) (Tried told fixed (step slots 0 0 1 none) (knows Idle seen g, []))) (sym home.1)
-      (wins_free slots id who seen log g views home.0 home.2 home.3 each at)
-  wins_from slots id who (suc k) seen log g homes views home held each at =
-      subst (λ (x : ℕ × List (mathlib.Core.Option.Option (Option B))). IsHeldBy (suc x.0) who views → Each (suc x.0) log who views → Goes (suc x.0 ∷ length log ∷ []) x.1 views id (knows Idle seen g, []) 0 (λ n. either (n == 0) 1 n) (Tried told fixed (step slots 0 0 1 none) (knows Idle seen g, [])))
-      (λ i. (sym home.0 i, sym home.1 i)) (λ held each. wins_taken slots id who seen log g views held each at) held each
+  -- the compare-exchange at a table whose first word is known
+  wins_from : (slots id holder lock : ℕ) (seen list : List E) (g : Option F) (homes : List (mathlib.Core.Option.Option (Option B))) (views : List V) → IsHome told fixed lock list f homes → IsHeldBy lock holder views → Each lock list holder views
+      → get_elem? views id ≡ some (knows Idle seen g) → Goes (lock ∷ length list ∷ []) homes views id (knows Idle seen g, []) 0 (λ n. either (n == 0) 1 n) (Tried told fixed (step slots 0 0 1 none) (knows Idle seen g, []))
+  wins_from slots id holder zero seen list g homes views home held each at =
+      subst (λ (hs : List (mathlib.Core.Option.Option (Option B))). Goes (0 ∷ length list ∷ []) hs views id (knows Idle seen g, []) 0 (λ n. either (n == 0) 1 n) (Tried told fixed (step slots 0 0 1 none) (knows Idle seen g, []))) (sym home.1)
+      (wins_free slots id holder seen list g views home.0 home.2 home.3 each at)
+  wins_from slots id holder (suc k) seen list g homes views home held each at =
+      subst (λ (x : ℕ × List (mathlib.Core.Option.Option (Option B))). IsHeldBy (suc x.0) holder views → Each (suc x.0) list holder views → Goes (suc x.0 ∷ length list ∷ []) x.1 views id (knows Idle seen g, []) 0 (λ n. either (n == 0) 1 n) (Tried told fixed (step slots 0 0 1 none) (knows Idle seen g, [])))
+      (λ i. (sym home.0 i, sym home.1 i)) (λ held each. wins_taken slots id holder seen list g views held each at) held each
 
+  -- the compare-exchange at each table
   pub wins : (slots id : ℕ) (m : M) → IsIdle m → Allows Rule slots id m 0 (λ n. either (n == 0) 1 n) (Tried told fixed (step slots 0 0 1 none) m)
   wins slots id m h = subst (λ (m : M). Allows Rule slots id m 0 (λ n. either (n == 0) 1 n) (Tried told fixed (step slots 0 0 1 none) m)) (as_idle m h)
       (λ s r long at lt. subst (λ (ws : List ℕ). Goes ws s.homes s.views id (knows Idle m.0.seen m.0.fixed, []) 0 (λ n. either (n == 0) 1 n) (Tried told fixed (step slots 0 0 1 none) (knows Idle m.0.seen m.0.fixed, []))) (sym r.words)
       (wins_from slots id r.holder r.lock m.0.seen r.list m.0.fixed s.homes s.views r.home r.held r.each at))
 
-  home_held : (lock : ℕ) (log log' : List E) (homes : List (mathlib.Core.Option.Option (Option B))) → lock ≡ 1 → IsHome told fixed lock log f homes → IsHome told fixed lock log' f homes
-  home_held zero log log' homes e h = absurd (zero_one e)
-  home_held (suc k) log log' homes e h = h
+  -- while the turn is held, its slot is empty, whatever the list is
+  home_held : (lock : ℕ) (list list' : List E) (homes : List (mathlib.Core.Option.Option (Option B))) → lock ≡ 1 → IsHome told fixed lock list f homes → IsHome told fixed lock list' f homes
+  home_held zero list list' homes e h = absurd (zero_one e)
+  home_held (suc k) list list' homes e h = h
 
-  empty_home : (lock : ℕ) (log : List E) (homes : List (mathlib.Core.Option.Option (Option B))) → lock ≡ 1 → IsHome told fixed lock log f homes → homes ≡ none ∷ []
-  empty_home zero log homes e h = absurd (zero_one e)
-  empty_home (suc k) log homes e h = h.1
+  -- while the turn is held, its slot is empty
+  empty_home : (lock : ℕ) (list : List E) (homes : List (mathlib.Core.Option.Option (Option B))) → lock ≡ 1 → IsHome told fixed lock list f homes → homes ≡ none ∷ []
+  empty_home zero list homes e h = absurd (zero_one e)
+  empty_home (suc k) list homes e h = h.1
 
+  -- the store of the count, the book being in the slot that the holder has
   grows_at : (slots id n : ℕ) (seen : List E) (g : Option F) (book : B) → Begins seen (told book) → n ≡ length (told book)
       → Allows Rule slots id (knows Holder seen g, (0, Some book) ∷ []) 1 (λ _. n) (λ _. Grew told (step slots 1 n 0 none) (knows Holder seen g, (0, Some book) ∷ []) n)
   grows_at slots id n seen g book more is s r long at lt =
@@ -202,14 +227,17 @@ module _ {B E F : Type 0} (told : B → List E) (fixed : B → F) (f : F) where
         refl,
       )
 
+  -- what is in an option, or else x
   some_back : F → Option F → F
   some_back x (Some y) = y
   some_back x None = x
 
+  -- two options that are equal have equal values
   some_same : (x y : F) → Some x ≡ Some y → x ≡ y
   unfolding some_back
   some_same x y e = ap (some_back x) e
 
+  -- the store of the turn
   frees_at : (slots id : ℕ) (seen : List E) (g : Option F) (book : B) → told book ≡ seen → g ≡ Some (fixed book)
       → Allows Rule slots id (knows Holder seen g, (0, Some book) ∷ []) 0 (λ _. 0) (λ _. Freed (step slots 0 0 0 none) (knows Holder seen g, (0, Some book) ∷ []) 0)
   frees_at slots id seen g book lists fixes s r long at lt =
@@ -231,6 +259,7 @@ module _ {B E F : Type 0} (told : B → List E) (fixed : B → F) (f : F) where
         refl,
       )
 
+  -- a seat is split off
   splits_at : (id : ℕ) (seen : List E) (g : Option F) → Splits Rule id (knows Idle seen g) (knows Idle seen g) (knows Idle seen g)
   splits_at id seen g s r at = let mine = r.each id (knows Idle seen g) at in record {
     lock = r.lock;
@@ -246,6 +275,7 @@ module _ {B E F : Type 0} (told : B → List E) (fixed : B → F) (f : F) where
   pub splits : (id : ℕ) (v : V) → v.role ≡ Idle → Splits Rule id v v v
   splits id v h = subst (λ (v : V). Splits Rule id v v v) (λ i. record { role = sym h i; seen = v.seen; fixed = v.fixed }) (splits_at id v.seen v.fixed)
 
+  -- a seat is taken in
   joins_at : (id other : ℕ) (seen told_of : List E) (g h : Option F) → Joins Rule id (knows Idle seen g) other (knows Idle told_of h) (knows (Joining told_of) seen g) spent_view
   joins_at id other seen told_of g h s r at apart there =
       let mine = r.each id (knows Idle seen g) at in
@@ -266,15 +296,17 @@ module _ {B E F : Type 0} (told : B → List E) (fixed : B → F) (f : F) where
   joins id other v u a b = subst (λ (x : V × V). Joins Rule id x.0 other x.1 (joining_view x.0 x.1) spent_view)
       (λ i. (record { role = sym a i; seen = v.seen; fixed = v.fixed }, record { role = sym b i; seen = u.seen; fixed = u.fixed })) (joins_at id other v.seen u.seen v.fixed u.fixed)
 
+  -- the load behind a join
   compares_at : (slots id : ℕ) (seen other : List E) (g : Option F) → Allows Rule slots id (knows (Joining other) seen g, []) 0 (λ n. n) (Compared (step slots 0 0 0 none) (knows (Joining other) seen g, []))
   compares_at slots id seen other g s r long at lt =
       let mine = r.each id (knows (Joining other) seen g) at in
       let w : V = knows Idle (longer seen other) g in
       (w, keeps, tt, unmoved s r 0 id [] w (omega arith) (longer_begins seen other r.list mine.0 mine.1, mine.2) (held_other r.lock r.holder id s.views (knows (Joining other) seen g) w at (not_holder_both other) r.held), (refl, begins_either seen other r.list mine.0 mine.1))
 
-  pub compares : (slots id : ℕ) (m : M) (v u : V) → m ≡ (joining_view v u, []) → Allows Rule slots id m 0 (λ n. n) (Compared (step slots 0 0 0 none) m)
-  compares slots id m v u e = subst (λ (m : M). Allows Rule slots id m 0 (λ n. n) (Compared (step slots 0 0 0 none) m)) (sym e) (compares_at slots id v.seen u.seen v.fixed)
+  pub compares : (slots id : ℕ) (m : M) (v u : V) (held : List (ℕ × Option B)) → m ≡ (joining_view v u, held) → held ≡ [] → Allows Rule slots id m 0 (λ n. n) (Compared (step slots 0 0 0 none) m)
+  compares slots id m v u held e free = subst (λ (m : M). Allows Rule slots id m 0 (λ n. n) (Compared (step slots 0 0 0 none) m)) (sym (e ∙ ap (λ l. (joining_view v u, l)) free)) (compares_at slots id v.seen u.seen v.fixed)
 
+  -- a seat that holds the turn with the book in its slot, by its parts
   as_holder : (m : M) (book : B) → m.0.role ≡ Holder → m.1 ≡ (0, Some book) ∷ [] → (knows Holder m.0.seen m.0.fixed, (0, Some book) ∷ []) ≡ m
   as_holder m book r c = λ i. (record { role = sym r i; seen = m.0.seen; fixed = m.0.fixed }, sym c i)
 
