@@ -20,6 +20,9 @@ pub trait Told {
 
 /// An operation on a book. `ready` is its condition, of itself, the book's `fixed` and its list. `did` is what it
 /// promises, of itself, the `fixed`, the list before, the reply and the list after. It adds one entry at most.
+///
+/// A turn asks `ready` of each list that begins with what the pass has seen. So a condition on what was seen is written
+/// as one on some beginning of the list.
 pub trait Act<B: Told> {
     type Reply;
 
