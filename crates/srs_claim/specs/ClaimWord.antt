@@ -22,7 +22,7 @@ spent_view = knows Spent 0 [] false 0
 
 -- the seat that another was split off
 abbrev pub with_less_spare : View → View
-with_less_spare v = knows v.role v.n v.drawn v.ended (v.spare - 1)
+with_less_spare v = record v { spare = v.spare - 1 }
 
 -- the seat that was split off
 abbrev pub new_view : View → View
@@ -30,7 +30,7 @@ new_view v = knows Live v.n [] false 0
 
 -- the seat that took in another
 abbrev pub joining_view : View → View → View
-joining_view v w = knows (Joining w.drawn) v.n v.drawn v.ended (v.spare + w.spare)
+joining_view v w = record v { role = Joining w.drawn; spare = v.spare + w.spare }
 
 -- the numbers of the seat that was taken in
 abbrev pub taken_in : Role → List ℕ
@@ -79,11 +79,11 @@ module _ {S : Type 0} where
   -- The seat found t: below n it drew it, a new number; else it has ended.
   abbrev pub Drew : Step S → Me S View → ℕ → Me S View → Type 0
   Drew step old t new =
-      (t < old.0.n → (new ≡ (knows old.0.role old.0.n (old.0.drawn ++ t ∷ []) old.0.ended old.0.spare, [])) × (times t old.0.drawn ≡ 0))
-      × (old.0.n ≤ t → new ≡ (knows old.0.role old.0.n old.0.drawn true old.0.spare, []))
+      (t < old.0.n → (new ≡ (record old.0 { drawn = old.0.drawn ++ t ∷ [] }, [])) × (times t old.0.drawn ≡ 0))
+      × (old.0.n ≤ t → new ≡ (record old.0 { ended = true }, []))
 
   -- The two lists have no number in common, and became one.
   abbrev pub Compared : Step S → Me S View → ℕ → Me S View → Type 0
   Compared step old found new =
-      (new ≡ (knows Live old.0.n (old.0.drawn ++ taken_in old.0.role) old.0.ended old.0.spare, []))
+      (new ≡ (record old.0 { role = Live; drawn = old.0.drawn ++ taken_in old.0.role }, []))
       × AreDistinct old.0.drawn (taken_in old.0.role) × AreBelow old.0.n new.0.drawn

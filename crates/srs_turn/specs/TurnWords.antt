@@ -19,7 +19,7 @@ module _ {E F : Type 0} where
 
   -- the seat that took in another
   abbrev pub joining_view : View E F → View E F → View E F
-  joining_view v w = knows (Joining w.seen) v.seen v.fixed
+  joining_view v w = record v { role = Joining w.seen }
 
   -- A seat that isn't spent has seen a beginning of the counted list and knows the turn's `fixed`. The holder is the one with this number, and has seen the whole.
   abbrev pub Fits : ℕ → List E → F → ℕ → ℕ → List E → Option F → Role E → Type 0
@@ -56,12 +56,12 @@ module _ {S E F : Type 0} where
 
   -- the seat gave up the turn, with its book
   abbrev pub Freed : Step S → Me S (View E F) → ℕ → Me S (View E F) → Type 0
-  Freed step old found new = new ≡ (knows Idle old.0.seen old.0.fixed, [])
+  Freed step old found new = new ≡ (record old.0 { role = Idle }, [])
 
   -- One of the two lists begins the other, and the longer is kept.
   abbrev pub Compared : Step S → Me S (View E F) → ℕ → Me S (View E F) → Type 0
   Compared step old found new =
-      (new ≡ (knows Idle (longer old.0.seen (taken_in old.0.role)) old.0.fixed, []))
+      (new ≡ (record old.0 { role = Idle; seen = longer old.0.seen (taken_in old.0.role) }, []))
       × (Begins old.0.seen (taken_in old.0.role) ⊎ Begins (taken_in old.0.role) old.0.seen)
 
 module _ {B E F : Type 0} (told : B → List E) (fixed : B → F) where
@@ -95,4 +95,4 @@ module _ {B E F : Type 0} (told : B → List E) (fixed : B → F) where
 module _ {B E F : Type 0} (told : B → List E) where
   -- the holder has seen the list of the book in its slot
   abbrev pub Grew : Step (Option B) → Me (Option B) (View E F) → ℕ → Me (Option B) (View E F) → Type 0
-  Grew step old found new = new ≡ (knows Holder (told_in told old.1) old.0.fixed, old.1)
+  Grew step old found new = new ≡ (record old.0 { role = Holder; seen = told_in told old.1 }, old.1)
