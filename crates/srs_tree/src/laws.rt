@@ -3,6 +3,7 @@ ghost use Rattle.srs_tree.specs.Legality.{LegalIsPartition};
 ghost use Rattle.srs_tree.specs.Snapshots.{SnapshotsStand, SnapshotsGrow};
 ghost use Rattle.srs_tree.specs.Rounds.{PlansAreSame, PlannedIsWhole};
 ghost use Rattle.srs_tree.specs.Queue.{QueueIsOpen, PlannedEnds};
+ghost use Rattle.srs_tree.specs.WholeTrees.{WholeIsBounded, WholeIsListed};
 
 /// The leaves of each legal history partition its root region, where that has a point. There is at most one plan. And a
 /// planned history in which each cell has an event is whole, and in rounds. The queue of a legal history has exactly the
@@ -16,4 +17,11 @@ pub fn histories()
     ensures ends { PlannedEnds }
     ensures stands { SnapshotsStand }
     ensures grows { SnapshotsGrow }
+{}
+
+/// A whole history has at most as many cells as its limits allow, and none is deeper than they allow. In preorder its
+/// events list a whole tree within the limits: no list of ranks and no cycle is longer than the number of witnesses.
+pub fn whole_trees()
+    ensures bounded { WholeIsBounded }
+    ensures listed { WholeIsListed }
 {}
