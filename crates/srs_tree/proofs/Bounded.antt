@@ -6,7 +6,7 @@ use Rattle.std.specs.Cmp.{decided}
 use Rattle.std.specs.Set.{is_member}
 use Rattle.std.proofs.lemmas.Bool.Decides.{nat_tests, Decides-eqb}
 use Rattle.std.proofs.lemmas.Option.{none-some}
-use Rattle.std.proofs.lemmas.List.{map-append}
+use Rattle.std.proofs.lemmas.List.{map-append, length-map}
 use Rattle.std.proofs.lemmas.List.Elements.{Contains-push_cases, Contains-get_or}
 use Rattle.std.proofs.lemmas.List.Kept.{AllPairs-filter}
 use Rattle.std.proofs.lemmas.List.Quantifiers.{all_pairs_push}
@@ -191,6 +191,16 @@ cuts_row Root W H k legal =
     let a : count_by (λ (p : List Side). length p == k) (paths H) ≤ row_of H k = count_fewer (λ (p : List Side). length p == k) (paths H) (cells_of H) p.once
     (λ q c. let t = p.to q c in (cells_are Root W H legal).from q (cell_of_outcome Root W H legal q t.0 t.1)) in
     omega (arith, a, cuts_paths k H)
+
+-- no more events than cells
+pub events_few : (Root : Area) (W : ℕ) (H : History) → IsLegal Root W H → length H ≤ length (cells_of H)
+events_few Root W H legal =
+    let p = paths_are Root W H legal in
+    let a = count_fewer (λ (q : List Side). true) (paths H) (cells_of H) p.once
+    (λ q c. let t = p.to q c in (cells_are Root W H legal).from q (cell_of_outcome Root W H legal q t.0 t.1)) in
+    let b = count_all (λ (q : List Side). true) (paths H) (λ q c. refl) in
+    let d = count_all (λ (q : List Side). true) (cells_of H) (λ q c. refl) in
+    omega (arith, a, b, d, length-map H (λ (e : Entry). e.path))
 
 -- no cut where the row is a last one
 refine_no_cut : (R : Area) (last : Option Last) (W : ℕ) (o : Outcome) → (last ≡ None → ⊥) → Refines R last W o → is_cut o ≡ false

@@ -3,6 +3,7 @@ ghost use Rattle.srs_tree.specs.Legality.{LegalIsPartition, LegalIsSound};
 ghost use Rattle.srs_tree.specs.Snapshots.{SnapshotsStand, SnapshotsGrow};
 ghost use Rattle.srs_tree.specs.Rounds.{PlansAreSame, PlannedIsWhole};
 ghost use Rattle.srs_tree.specs.Queue.{QueueIsOpen, PlannedEnds};
+ghost use Rattle.srs_tree.specs.WholeTrees.{WholeIsBounded, WholeIsListed};
 
 /// The leaves of each legal history partition its root region, where that has a point, and what each of its events claims
 /// holds of its cell. There is at most one plan. And a
@@ -18,4 +19,11 @@ pub fn histories()
     ensures ends { PlannedEnds }
     ensures stands { SnapshotsStand }
     ensures grows { SnapshotsGrow }
+{}
+
+/// A whole history has at most as many cells as its limits allow, and none is deeper than they allow. In preorder its
+/// events list a whole tree within the limits: no list of ranks and no cycle is longer than the number of witnesses.
+pub fn whole_trees()
+    ensures bounded { WholeIsBounded }
+    ensures listed { WholeIsListed }
 {}

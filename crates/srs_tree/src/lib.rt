@@ -12,7 +12,7 @@ mod waiting;
 mod walks;
 
 pub use journals::Journal;
-pub use laws::histories;
+pub use laws::{histories, whole_trees};
 pub use refusals::TreeErr;
 pub use sharing::shared;
 pub use versions::Version;
