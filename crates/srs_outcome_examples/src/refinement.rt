@@ -12,11 +12,7 @@ use std::alloc::Global;
 use std::test::Fail;
 
 // How many witnesses the part has, where it is inside.
-fn inside(
-    alloc: Global,
-    cuts: &[Cut],
-    last: Option<Last>,
-) -> Result<Option<u32>, Fail> {
+fn inside(alloc: Global, cuts: &[Cut], last: Option<Last>) -> Result<Option<u32>, Fail> {
     let finding = refine(alloc, &part(alloc, SPLIT, cuts)?, last, 16)?;
     match finding.outcome() {
         Outcome::Inside(ranks) => Ok(Some(ranks.len())),
@@ -25,11 +21,7 @@ fn inside(
 }
 
 // The length and the first entry of the cycle of the part, where it is outside.
-fn outside(
-    alloc: Global,
-    cuts: &[Cut],
-    last: Option<Last>,
-) -> Result<Option<(u32, i64)>, Fail> {
+fn outside(alloc: Global, cuts: &[Cut], last: Option<Last>) -> Result<Option<(u32, i64)>, Fail> {
     let finding = refine(alloc, &part(alloc, SPLIT, cuts)?, last, 16)?;
     match finding.outcome() {
         Outcome::Outside(cycle) => Ok(Some((cycle.len(), cycle.entry(0)))),

@@ -79,12 +79,7 @@ fn why_not(
 }
 
 // The version with the finding of the part entered.
-fn entered(
-    alloc: Global,
-    version: &Version,
-    path: Path,
-    cuts: &[Cut],
-) -> Result<Version, Fail> {
+fn entered(alloc: Global, version: &Version, path: Path, cuts: &[Cut]) -> Result<Version, Fail> {
     let finding = finding_of(alloc, cuts)?;
     match with(alloc, version, path, finding)? {
         Ok(next) => Ok(next),
