@@ -6,10 +6,10 @@ ghost use Rattle.srs_tree.specs.Queue.{QueueIsOpen, PlannedEnds};
 ghost use Rattle.srs_tree.specs.WholeTrees.{WholeIsBounded, WholeIsListed};
 
 /// The leaves of each legal history partition its root region, where that has a point, and what each of its events claims
-/// holds of its cell. There is at most one plan. And a
-/// planned history in which each cell has an event is whole, and in rounds. The queue of a legal history has exactly the
-/// cells without an event, and a planned history with an empty queue is whole. Exactly one snapshot stands for a legal
-/// history, and with one entry more it stands for the history with one event more.
+/// holds of its cell. There is at most one plan. A planned history in which each cell has an event is whole, and in
+/// rounds. The queue of a legal history has exactly the cells without an event, and a planned history with an empty queue
+/// is whole. Exactly one snapshot stands for a legal history, and with one entry more it stands for the history with one
+/// event more.
 pub fn histories()
     ensures partition { LegalIsPartition }
     ensures sound { LegalIsSound }
