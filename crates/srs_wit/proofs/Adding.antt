@@ -1,6 +1,6 @@
 -- What one more pair makes of those found.
-use Rattle.std.proofs.Common.{◌≡◌, ◌≢◌, ◌⊎◌, inl, inr, ℕ, zero, suc, ◌+◌, ◌^◌, ◌≤◌, List, [], ◌∷◌, ◌++◌, length, Bool, true, false, IsTrue, arith, ap, subst, sym, ◌∙◌, refl, length-append, lit<, pos, append_assoc}
-use Rattle.std.specs.Prelude.{Contains, AllPairs, if◌then◌else◌, not, Result, Ok, Err, IfOk, OnOk}
+use Rattle.std.proofs.Common.{◌≡◌, ◌≢◌, ◌⊎◌, inl, inr, ℕ, zero, suc, ◌^◌, ◌≤◌, List, [], ◌∷◌, ◌++◌, Bool, true, false, IsTrue, arith, ap, subst, sym, ◌∙◌, refl, lit<, pos, append_assoc}
+use Rattle.std.specs.Prelude.{Contains, AllPairs, if◌then◌else◌, not, Result, Ok, Err, IfOk}
 use Rattle.std.specs.List.{list_any, IsDistinct}
 use Rattle.std.proofs.lemmas.Bool.{false≢true}
 use Rattle.std.proofs.lemmas.List.{append-nil}
@@ -10,7 +10,7 @@ use Rattle.std.proofs.lemmas.Map.Views.{Contains-from_any}
 use Rattle.indexmap.specs.IndexSet.{insert_key}
 use Rattle.srs_num.specs.declared.pairs.V2.{V2}
 use Rattle.srs_num.proofs.Ranges.{within_opposite}
-use Rattle.srs_map.specs.Step.{pair, minus, origin, IsNarrow}
+use Rattle.srs_map.specs.Step.{pair, minus, IsNarrow}
 use Rattle.srs_map.specs.Links.{right, left, up, down}
 use Rattle.srs_plane.specs.Regions.{Area}
 use Rattle.srs_path.specs.Witnesses.{IsWitness, unit}
@@ -92,9 +92,6 @@ module _ (W : ℕ) (old : List V2) (was : Bool) (v u : V2) (new : List V2) (e : 
     pub new_narrow : AreNarrow old → IsNarrow v → AreNarrow new
     new_narrow a n w c = elim (others w c) [ inl x ↦ a w x | inr x ↦ upper_narrow v w x n ]
 
-    pub new_count : count_both old was ≤ W → count_both new was ≤ W + 2
-    new_count h = let l : length new ≡ length old + 1 = ap length grown ∙ length-append old (u ∷ []) in omega (arith, l)
-
     pub new_half : (R : Area) → AreHalf R old was → IsWitness R v → IsNarrow v → AreHalf R new was
     new_half R a h n = record {
       upper = λ w c. elim (others w c) [ inl x ↦ a.upper w x | inr x ↦ x.0 ];
@@ -103,27 +100,6 @@ module _ (W : ℕ) (old : List V2) (was : Bool) (v u : V2) (new : List V2) (e : 
       narrow = new_narrow a.narrow n;
       center = a.center;
     }
-
--- (0, 0) was met
-pub adds_origin : (W : ℕ) (old : List V2) (was : Bool) (v : V2) (waited : List V2) → v ≡ origin → IsNarrow v → count_both old true ≤ W → Adds W old was v old true waited waited
-adds_origin W old was v waited e n h = record {
-  more = [];
-  is = sym (append-nil old);
-  waits = sym (append-nil waited);
-  here = inr (inr (e, refl));
-  others = λ w c. inl c;
-  center = λ _. inr e;
-  stays = λ _. refl;
-  different = λ d. d;
-  narrow = n;
-  few = h;
-}
-
-pub origin_half : (R : Area) (old : List V2) (was : Bool) (v : V2) → v ≡ origin → AreHalf R old was → IsWitness R v → AreHalf R old true
-origin_half R old was v e a h = record { upper = a.upper; different = a.different; each = a.each; narrow = a.narrow; center = λ _. subst (IsWitness R) e h }
-
-pub origin_count : (W : ℕ) (old : List V2) (was : Bool) → count_both old was ≤ W → count_both old true ≤ W + 2
-origin_count W old was h = omega arith
 
 module _ (R : Area) (W : ℕ) where
   pub none_half : (met : Bool) → met ≡ false → AreHalf R [] met
@@ -166,9 +142,6 @@ held_longer old was new met more e s w (inr (inr c)) = inr (inr (c.0, s c.1))
 pub adds_keep : (W : ℕ) (old : List V2) (was : Bool) (v : V2) (new : List V2) (met : Bool) (waited waiting : List V2) → Adds W old was v new met waited waiting → (w : V2) → IsHeld old was w → IsHeld new met w
 adds_keep W old was v new met waited waiting a w c = held_longer old was new met a.more a.is a.stays w c
 
-pub adds_narrow : (W : ℕ) (old : List V2) (was : Bool) (v : V2) (new : List V2) (met : Bool) (waited waiting : List V2) → Adds W old was v new met waited waiting → AreNarrow old → AreNarrow new
-adds_narrow W old was v new met waited waiting a n w c = elim (a.others w c) [ inl y ↦ n w y | inr y ↦ upper_narrow v w y a.narrow ]
-
 -- the units, one after another
 module _ (W : ℕ) (k0 k1 k2 : List V2) (m0 m1 m2 : Bool) (w0 w1 w2 : List V2) (e0 : k0 ≡ []) (g0 : m0 ≡ false) (f0 : w0 ≡ []) where
   none_yet : count_both k0 m0 ≤ W
@@ -196,10 +169,6 @@ module _ (W : ℕ) (k0 k1 k2 : List V2) (m0 m1 m2 : Bool) (w0 w1 w2 : List V2) (
       has_units w left = mirror_held k2 m2 (pair (pos 1) (pos 0)) (adds_keep W k1 m1 _ k2 m2 w1 w2 a2 (pair (pos 1) (pos 0)) a1.here)
       has_units w up = a2.here
       has_units w down = mirror_held k2 m2 (pair (pos 0) (pos 1)) a2.here
-
-pub on_ok : {T E P Q : Type 0} (r : Result T E) → (P → Q) → OnOk r P → OnOk r Q
-on_ok (Ok x) f h = f h
-on_ok (Err x) f h = tt
 
 pub was_there : (r b : Bool) → r ≡ false → r ≡ not b → b ≡ true
 was_there r true e f = refl

@@ -1,5 +1,5 @@
 // The search for all witnesses of a cell.
-ghost use Rattle.std.specs.Prelude.{◌≡◌, ℕ, ◌+◌, ◌≤◌, ◌^◌, false, [], take, OnOk, IfOk, IfErr};
+ghost use Rattle.std.specs.Prelude.{◌≡◌, ℕ, ◌+◌, ◌<◌, ◌≤◌, ◌^◌, false, [], take, MatchBool, OnOk, IfOk, IfErr};
 ghost use Rattle.indexmap.specs.IndexSet.{IsEmpty};
 ghost use Rattle.srs_map.specs.Step.{IsNarrow};
 ghost use Rattle.srs_plane.specs.Regions.{Area};
@@ -83,17 +83,21 @@ impl Search {
         copied(alloc, &all[..n as usize])
     }
 
-    // Whether they are within the bound.
-    fn checked(&self, alloc: Global, bound: u32) -> Result<(), WitErr>
-        requires narrow { AreNarrow self.now.found.keys }
-        requires few { count_both self.now.found.keys self.now.origin ≤ bound + 2 }
-        ensures ok { OnOk result (count_both self.now.found.keys self.now.origin ≤ bound) }
-        ensures excess { (R : Area) → AreHalf R self.now.found.keys self.now.origin → IfErr result (IsExcess R bound) }
+    // Whether they are more than the bound.
+    fn is_over(&self, bound: u32) -> bool
+        requires { count_both self.now.found.keys self.now.origin ≤ 2 ^ 33 }
+        ensures { MatchBool result (bound < count_both self.now.found.keys self.now.origin) (count_both self.now.found.keys self.now.origin ≤ bound) }
     {
-        if self.count() <= bound as u64 {
-            return Ok(());
-        }
-        Err(too_many(self.first(alloc, bound as u64 + 1), bound))
+        self.count() > bound as u64
+    }
+
+    // The refusal that shows one more of them than the bound.
+    fn excess(&self, alloc: Global, bound: u32) -> WitErr
+        requires narrow { AreNarrow self.now.found.keys }
+        requires many { bound < count_both self.now.found.keys self.now.origin }
+        ensures { (R : Area) → AreHalf R self.now.found.keys self.now.origin → IsExcess R bound result }
+    {
+        too_many(self.first(alloc, bound as u64 + 1), bound)
     }
 
     // Adds a witness, which stands for the one on the other side too.
@@ -108,14 +112,19 @@ impl Search {
         }
         let Some(u) = upper(v) else {
             self.origin = true;
-            return self.checked(alloc, bound);
+            if self.is_over(bound) {
+                return Err(self.excess(alloc, bound));
+            }
+            return Ok(());
         };
         match self.found.insert(u) {
             Ok(true) => {}
             Ok(false) => return Ok(()),
             Err(_) => return Err(WitErr::NoMemory),
         }
-        self.checked(alloc, bound)?;
+        if self.is_over(bound) {
+            return Err(self.excess(alloc, bound));
+        }
         match self.waiting.push(u) {
             Ok(()) => Ok(()),
             Err(_) => Err(WitErr::NoMemory),

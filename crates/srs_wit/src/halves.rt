@@ -43,7 +43,9 @@ fn opposites(alloc: Global, pairs: &[V2]) -> Result<Vec<V2>, NoMemory>
     requires { AreNarrow pairs.now }
     ensures { IfOk result (λ all. all.items ≡ opposites pairs.now) }
 {
-    let mut all = Vec::new(alloc);
+    let Ok(mut all) = Vec::with_capacity(alloc, pairs.len()) else {
+        return Err(NoMemory);
+    };
     for i in (0..pairs.len()).rev() {
         add_pair(&mut all, minus(pairs[i]))?;
     }
