@@ -10,9 +10,10 @@ ghost use Rattle.srs_wit.specs.Search.{AreHalf, AreFound, Adds, Extends, IsClose
 
 use crate::halves::{upper, with_opposites};
 use crate::sets::{Big, WitErr, WitSet};
-use crate::spans::{count, first_pairs, is_narrow, pair_at};
+use crate::spans::{count, first_pairs, pair_at};
 use indexmap::IndexSet;
 use srs_cell::Cell;
+use srs_map::is_narrow;
 use srs_num::{NoMemory, Pairs, V2};
 use std::alloc::Global;
 
@@ -26,19 +27,8 @@ struct Search {
     waiting: Vec<V2>,
 }
 
-// The pairs as a list of their own.
-fn copied(alloc: Global, pairs: &[V2]) -> Result<Pairs, NoMemory>
-    ensures { IfOk result (λ copy. copy ≡ pairs.now) }
-{
-    let mut copy = Pairs::new(alloc);
-    for w in pairs {
-        match copy.push(*w) {
-            Ok(()) => {}
-            Err(_) => return Err(NoMemory),
-        }
-    }
-    Ok(copy)
-}
+// The most pairs for which there is room at first.
+const ROOM: usize = 512;
 
 // The refusal that shows these witnesses.
 fn too_many(shown: Result<Pairs, NoMemory>, bound: u32) -> WitErr
@@ -51,17 +41,25 @@ fn too_many(shown: Result<Pairs, NoMemory>, bound: u32) -> WitErr
 }
 
 impl Search {
-    // Nothing found yet.
-    fn new(alloc: Global) -> Search
-        ensures found { IsEmpty result.found }
-        ensures origin { result.origin ≡ false }
-        ensures waiting { result.waiting.items ≡ [] }
+    // Nothing found yet. There is room for as many as the bound allows, up to a table that costs little to make.
+    fn new(alloc: Global, bound: u32) -> Result<Search, WitErr>
+        ensures found { IfOk result (λ search. IsEmpty search.found) }
+        ensures origin { IfOk result (λ search. search.origin ≡ false) }
+        ensures waiting { IfOk result (λ search. search.waiting.items ≡ []) }
+        ensures excess { (R : Area) → IfErr result (IsExcess R bound) }
     {
-        Search {
-            found: IndexSet::new(alloc),
+        let room = (bound as usize / 2 + 1).min(ROOM);
+        let Ok(found) = IndexSet::with_capacity(alloc, room) else {
+            return Err(WitErr::NoMemory);
+        };
+        let Ok(waiting) = Vec::with_capacity(alloc, room) else {
+            return Err(WitErr::NoMemory);
+        };
+        Ok(Search {
+            found,
             origin: false,
-            waiting: Vec::new(alloc),
-        }
+            waiting,
+        })
     }
 
     // How many witnesses were found, on both sides of (0,0).
@@ -80,7 +78,7 @@ impl Search {
         ensures { IfOk result (λ ps. ps ≡ take n (with_opposites self.now.found.keys self.now.origin)) }
     {
         let all = with_opposites(alloc, self.found.as_slice(), self.origin)?;
-        copied(alloc, &all[..n as usize])
+        Pairs::from_slice(alloc, &all[..n as usize])
     }
 
     // Whether they are more than the bound.
@@ -184,7 +182,7 @@ fn find_all(alloc: Global, cell: &Cell, bound: u32) -> Result<Search, WitErr>
     ensures all { IfOk result (λ search. AreAll cell.now bound search.found.keys search.origin) }
     ensures excess { IfErr result (IsExcess cell.now bound) }
 {
-    let mut search = Search::new(alloc);
+    let mut search = Search::new(alloc, bound)?;
     search.add_units(alloc, bound)?;
     while let Some(w) = search.waiting.pop() {
         search.add_links(alloc, cell, bound, w)?;

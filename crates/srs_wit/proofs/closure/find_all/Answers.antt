@@ -8,6 +8,11 @@ returns-in_err-add_units-clause-excess c =
     let e : IsExcess c.args.cell.now c.args.bound c.in_err-add_units.field-0.0 = c.in_err-add_units.ensures.excess c.args.cell.now in
     search rules
 
+pub returns-in_err-search-clause-excess : goal.returns-in_err-search-clause-excess
+returns-in_err-search-clause-excess c =
+    let e : IsExcess c.args.cell.now c.args.bound c.in_err-search.field-0.0 = c.in_err-search.ensures.excess c.args.cell.now in
+    search rules
+
 pub loop-w-init : goal.loop-w-init
 loop-w-init c =
     closing_none c.args.cell.now c.args.bound c.add_units.new.self.found.keys c.add_units.new.self.origin c.add_units.new.self.waiting.items (c.in_ok-add_units.ensures.found c.args.cell.now) c.in_ok-add_units.ensures.units

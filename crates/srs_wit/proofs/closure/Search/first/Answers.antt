@@ -5,8 +5,8 @@ use Rattle.srs_wit.specs.Halves.{with_opposites}
 use Rattle.srs_wit.proofs.BothSides.{length-both}
 use Rattle.srs_wit.proofs.closure.Search.first.Goals as goal
 
-pub slice_bounds-copied-end : goal.slice_bounds-copied-end
-slice_bounds-copied-end c =
+pub slice_bounds-from_slice-end : goal.slice_bounds-from_slice-end
+slice_bounds-from_slice-end c =
     let keys = c.args.self.now.found.keys in
     let met = c.args.self.now.origin in
     let e : c.deref.result.now ≡ with_opposites keys met = c.deref.ensures.value ∙ c.in_ok-all.ensures ∙ ap (λ (x : List V2). with_opposites x met) c.as_slice.ensures.keys in
