@@ -22,6 +22,15 @@ read_lt a b e = omega (arith, ints)
 pub read_ge : (a b : ℤ) → lt_z a b ≡ false → b ≤ℤ a
 read_ge a b e = omega (arith, ints)
 
+pub is_read_lt : (a b : ℤ) → (lt_z a b ≡ true → a <ℤ b) × (a <ℤ b → lt_z a b ≡ true)
+is_read_lt a b = (
+  read_lt a b,
+  λ l. elim (lt_z a b) as (λ x. lt_z a b ≡ x → x ≡ true) [
+    | true ↦ λ e. refl
+    | false ↦ λ e. absurd (omega (arith, ints, l, read_ge a b e))
+  ] refl,
+)
+
 pub turned : (n : ℤ) → pos 0 -ℤ n ≡ neg_ℤ n
 turned n = omega (arith, linear)
 

@@ -9,6 +9,9 @@ use crate::Cell;
 use crate::cells::is_inside;
 use srs_num::{Corner, Form, is_less_quotient};
 
+// The most in magnitude of two numbers whose product 128 bits hold.
+const HALF: i128 = 1 << 62;
+
 /// The number `num / den`, with `den` at least 1, and whether a point takes it. The fraction isn't always reduced.
 #[derive(Clone, Copy, Debug, PartialEq, Eq, Drop)]
 pub struct Bound {
@@ -104,7 +107,38 @@ fn is_lower(form: &Form, corner: &Corner, other: &Corner) -> bool
 {
     let (_, _, d) = corner.parts();
     let (_, _, e) = other.parts();
-    is_less_quotient(form.at_corner(corner), d, form.at_corner(other), e)
+    is_less(form.at_corner(corner), d, form.at_corner(other), e)
+}
+
+// Whether n / d is less than m / e: by products where 128 bits hold them.
+fn is_less(n: i128, d: i128, m: i128, e: i128) -> bool
+    requires d { pos 1 ≤ℤ d }
+    requires e { pos 1 ≤ℤ e }
+    ensures { IsTrue result ↔ (n *ℤ e) <ℤ (m *ℤ d) }
+{
+    if are_half(n, d, m, e) {
+        return is_less_product(n, d, m, e);
+    }
+    is_less_quotient(n, d, m, e)
+}
+
+// Whether all four numbers are at most 2^62 in magnitude, so that 128 bits hold their products.
+fn are_half(n: i128, d: i128, m: i128, e: i128) -> bool
+    ensures { IsTrue result → IsWithin (2 ^ 62) n × IsWithin (2 ^ 62) d × IsWithin (2 ^ 62) m × IsWithin (2 ^ 62) e }
+{
+    let left = -HALF <= n && n <= HALF && -HALF <= d && d <= HALF;
+    left && -HALF <= m && m <= HALF && -HALF <= e && e <= HALF
+}
+
+// Whether n * e is less than m * d.
+fn is_less_product(n: i128, d: i128, m: i128, e: i128) -> bool
+    requires n { IsWithin (2 ^ 62) n }
+    requires d { IsWithin (2 ^ 62) d }
+    requires m { IsWithin (2 ^ 62) m }
+    requires e { IsWithin (2 ^ 62) e }
+    ensures { IsTrue result ↔ (n *ℤ e) <ℤ (m *ℤ d) }
+{
+    n * e < m * d
 }
 
 // The value of the form at a corner of a cell. It is at most 2^117 in magnitude.
