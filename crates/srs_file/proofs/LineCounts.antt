@@ -61,9 +61,9 @@ said_one word zs h = ended_one (line_of word zs) (line_clear word zs h)
 vertex_one : (v : Vertex) → lf_count (vertex_text v) ≡ 1
 vertex_one v = said_one (kind_word v.kind) (v.p ∷ v.q ∷ v.d ∷ []) (word v.kind)
   where
-  word : (kind : Kind) → NoLf (kind_word kind)
-  word Ge = refl
-  word Gt = refl
+    word : (kind : Kind) → NoLf (kind_word kind)
+    word Ge = refl
+    word Gt = refl
 
 vertices_all : (vs : List Vertex) → lf_count (flat_map vertex_text vs) ≡ length vs
 vertices_all [] = refl

@@ -24,4 +24,3 @@ pub fn put_certificate(
     put_outcome(out, outcome)?;
     out.extend(b"end\n")
 }
-
