@@ -75,14 +75,13 @@ entries_from : (done rest : List (V2 × ℕ)) → AllPairs (λ (e f : V2 × ℕ)
 entries_from done [] asc each = tt
 entries_from done (e ∷ rest) asc each =
     let here : get_or (done ++ e ∷ rest) (length done) e ≡ e = get_or-append_seam done e rest e in
-    let size : length (done ++ e ∷ rest) ≡ length done + length (e ∷ rest) = length-append done (e ∷ rest) in
-    (
+    let size : length (done ++ e ∷ rest) ≡ length done + length (e ∷ rest) = length-append done (e ∷ rest) in (
       rw here at (each (length done) e (omega arith)),
       (λ before last q.
-        let whole : done ++ e ∷ rest ≡ before ++ last ∷ (e ∷ rest) = ap (λ x. x ++ e ∷ rest) q ∙ append_assoc before (last ∷ []) (e ∷ rest) in
-        let there : get_or (done ++ e ∷ rest) (length before) e ≡ last = rw whole (get_or-append_seam before last (e ∷ rest) e) in
-        let low : length before < length done = omega (arith, ap length q, length-append before (last ∷ [])) in
-        rw (there, here) at (asc (length before) (length done) e low (omega arith))),
+          let whole : done ++ e ∷ rest ≡ before ++ last ∷ (e ∷ rest) = ap (λ x. x ++ e ∷ rest) q ∙ append_assoc before (last ∷ []) (e ∷ rest) in
+          let there : get_or (done ++ e ∷ rest) (length before) e ≡ last = rw whole (get_or-append_seam before last (e ∷ rest) e) in
+          let low : length before < length done = omega (arith, ap length q, length-append before (last ∷ [])) in
+          rw (there, here) at (asc (length before) (length done) e low (omega arith))),
       entries_from (done ++ e ∷ []) rest (rw (append_assoc done (e ∷ []) rest) asc) (rw (append_assoc done (e ∷ []) rest) each),
     )
 

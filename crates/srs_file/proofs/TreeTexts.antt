@@ -141,9 +141,9 @@ settled s t o (path, rest, waits, e) closed g range allowed alone = rw e (record
   each = All-append (KeepsTo s.limits) s.events (at_path path o ∷ []) g.each (All-cons (KeepsTo s.limits) (at_path path o) [] (allowed (length path)) (All-nil (KeepsTo s.limits)));
   ranges = All-append (λ (x : Entry). IsInRange x.outcome) s.events (at_path path o ∷ []) g.ranges (All-cons (λ (x : Entry). IsInRange x.outcome) (at_path path o) [] range (All-nil (λ (x : Entry). IsInRange x.outcome)));
   listed = λ K l.
-    let here : ListsTrees (path ∷ rest) (at_path path o ∷ K) = (refl, rw (alone path) l) in
-    let more : ListsTrees s.pending (at_path path o ∷ K) = rw waits here in
-    rw (append_assoc s.events (at_path path o ∷ []) K) (g.listed (at_path path o ∷ K) more);
+      let here : ListsTrees (path ∷ rest) (at_path path o ∷ K) = (refl, rw (alone path) l) in
+      let more : ListsTrees s.pending (at_path path o ∷ K) = rw waits here in
+      rw (append_assoc s.events (at_path path o ∷ []) K) (g.listed (at_path path o ∷ K) more);
 })
 
 -- the next cell is cut
@@ -157,16 +157,16 @@ divided s t h (path, rest, waits, high, e) room sized closed g = rw e (record {
   each = All-append (KeepsTo s.limits) s.events (at_path path (Cut h) ∷ []) g.each (All-cons (KeepsTo s.limits) (at_path path (Cut h)) [] high (All-nil (KeepsTo s.limits)));
   ranges = All-append (λ (x : Entry). IsInRange x.outcome) s.events (at_path path (Cut h) ∷ []) g.ranges (All-cons (λ (x : Entry). IsInRange x.outcome) (at_path path (Cut h)) [] sized (All-nil (λ (x : Entry). IsInRange x.outcome)));
   listed = λ K l.
-    let here : ListsTrees (path ∷ rest) (at_path path (Cut h) ∷ K) = (refl, l) in
-    let more : ListsTrees s.pending (at_path path (Cut h) ∷ K) = rw waits here in
-    rw (append_assoc s.events (at_path path (Cut h) ∷ []) K) (g.listed (at_path path (Cut h) ∷ K) more);
+      let here : ListsTrees (path ∷ rest) (at_path path (Cut h) ∷ K) = (refl, l) in
+      let more : ListsTrees s.pending (at_path path (Cut h) ∷ K) = rw waits here in
+      rw (append_assoc s.events (at_path path (Cut h) ∷ []) K) (g.listed (at_path path (Cut h) ∷ K) more);
 })
 
 closed_is : (b : Budget) (leaf : LeafView) → IsLeafFine b leaf → leaf.left ≡ 0 → leaf ≡ no_leaf
 closed_is b leaf f e = same leaf.left leaf.entries e (f.none e)
   where
-  same : (left : ℕ) (entries : List (V2 × ℕ)) → left ≡ 0 → entries ≡ [] → let l : LeafView = record { left = left; entries = entries } in l ≡ no_leaf
-  same left entries e f = rw (e, f) refl
+    same : (left : ℕ) (entries : List (V2 × ℕ)) → left ≡ 0 → entries ≡ [] → let l : LeafView = record { left = left; entries = entries } in l ≡ no_leaf
+    same left entries e f = rw (e, f) refl
 
 -- the text of a settled cell
 settled_text : (s t : Tree) (o : Outcome) → Settles s o t → s.leaf.left ≡ 0 → tree_text t ≡ tree_text s ++ outcome_text o
@@ -224,15 +224,18 @@ grows_node s t line closed some g (inr (inr (inr (w, (cause, p, e))))) =
 entry_fine : (b : Budget) (s t : LeafView) (line : List ℕ) → 0 < s.left → IsLeafFine b s → TakesEntry s line t
     → (0 < t.left → IsLeafFine b t) × (t.left ≡ 0 → IsBudget b → IsRankList t.entries × (length t.entries ≤ b.wits))
 entry_fine b s t line some f (w, n, p, follows, e) = rw e (
-      (λ more. record { none = λ z. absurd (omega arith); few = few; ascending = asc; each = each }),
-      (λ zero h. (record { some = omega (arith, length-append s.entries ((w, n) ∷ [])); short = omega (arith, few, h.wits); ascending = asc; each = each }, omega (arith, few))),
-    ) where
+  (λ more. record { none = λ z. absurd (omega arith); few = few; ascending = asc; each = each }),
+  (λ zero h. (record { some = omega (arith, length-append s.entries ((w, n) ∷ [])); short = omega (arith, few, h.wits); ascending = asc; each = each }, omega (arith, few))),
+) where
   few : length (s.entries ++ (w, n) ∷ []) + (s.left - 1) ≤ b.wits
   few = omega (arith, f.few, some, length-append s.entries ((w, n) ∷ []))
+
   asc : AllPairs (λ (x y : V2 × ℕ). Precedes x.0 y.0) (s.entries ++ (w, n) ∷ [])
   asc = ascends_push (λ (x y : V2 × ℕ). Precedes x.0 y.0) (λ x y z. precedes-trans x.0 y.0 z.0) s.entries (w, n) f.ascending follows
+
   small : n ≤ 16384
   small = let entry = p.1 in omega (arith, ints, entry.2)
+
   each : All (λ (x : V2 × ℕ). IsNarrow x.0 × (x.1 ≤ 16384)) (s.entries ++ (w, n) ∷ [])
   each = All-append (λ (x : V2 × ℕ). IsNarrow x.0 × (x.1 ≤ 16384)) s.entries ((w, n) ∷ []) f.each (All-cons (λ (x : V2 × ℕ). IsNarrow x.0 × (x.1 ≤ 16384)) (w, n) [] (p.1.0, small) (All-nil (λ (x : V2 × ℕ). IsNarrow x.0 × (x.1 ≤ 16384))))
 

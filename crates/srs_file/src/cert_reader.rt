@@ -8,7 +8,9 @@ ghost use Rattle.srs_file.specs.Certificates.{CertView, IsCertificate, cert_text
 ghost use Rattle.srs_file.specs.CertReading.{cert_start, StepsFirst, SlipsFirst, StepsHead, SlipsHead, SaysLimits, AreNoLimits, IsLimitsSlip, StepsLimits, StepsVertices, SlipsVertices, StepsNodes, SlipsNodes, ReadsAsCert, FirstCertSlip, IsCertRefusal, IsNoCert};
 
 use crate::{Cert, Ring, Tree};
-use srs_line::{FileErr, LineErr, LineMachine, Slip, never_both, one, one_slip, read_lines, read_once, three};
+use srs_line::{
+    FileErr, LineErr, LineMachine, Slip, never_both, one, one_slip, read_lines, read_once, three,
+};
 use srs_path::Limits;
 use std::alloc::Global;
 
