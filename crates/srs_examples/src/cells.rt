@@ -162,6 +162,13 @@ fn spans_of(cell: &Cell, a: i64, b: i64) -> Option<(Span, Span)> {
     Some((cell.moves(w), cell.wmoves(w)))
 }
 
+fn links_of(cell: &Cell, a: i64, b: i64) -> Option<Span> {
+    if a < -WIDEST || a > WIDEST || b < -WIDEST || b > WIDEST {
+        return None;
+    }
+    Some(cell.links(V2 { a, b }))
+}
+
 fn span(low: i64, high: i64) -> Span {
     Span { low, high }
 }
@@ -181,6 +188,8 @@ fn open_corner_triangle(rt: HostRuntime) -> Result<(), Fail> {
             assert!(rt; !high.attained);
         }
         assert_eq!(rt; spans_of(&cell, -1, 0), Some((span(1, 1), span(0, 0))));
+        assert_eq!(rt; links_of(&cell, -1, 0), Some(span(0, 1)));
+        assert_eq!(rt; links_of(&cell, WIDEST, 0), Some(span(-(1 << 34), 0)));
         // x * 2^37 is above 0 and below 2^34, whole or not
         assert_eq!(rt;
             spans_of(&cell, WIDEST, 0),
