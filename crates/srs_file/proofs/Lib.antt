@@ -1,4 +1,7 @@
 pub mod Growing
+pub mod LineCounts
+pub mod NodeLines
+pub mod LtParts
 pub mod RingLaws
-pub mod OutlineLaws
+pub mod PolygonLaws
 pub mod PolygonTexts

@@ -19,15 +19,15 @@ use Rattle.srs_line.specs.declared.slip.FileErr.{FileErr}
 use Rattle.srs_line.specs.declared.slip.FileErr.TheVariants.{At, NoMemory}
 use Rattle.srs_line.proofs.MachineLaws.{never_both}
 use Rattle.srs_line.proofs.LineTexts.{said_is, says_line, line_no_lf}
-use Rattle.srs_file.specs.declared.outline.Phase.{Phase}
-use Rattle.srs_file.specs.declared.outline.Phase.TheVariants.{Head, Vertices, Done}
-use Rattle.srs_file.specs.declared.outline.PolygonReader.{PolygonReader}
+use Rattle.srs_file.specs.declared.polygon_reader.Phase.{Phase}
+use Rattle.srs_file.specs.declared.polygon_reader.Phase.TheVariants.{Head, Vertices, Done}
+use Rattle.srs_file.specs.declared.polygon_reader.PolygonReader.{PolygonReader}
 use Rattle.srs_file.specs.Texts.{ended, kind_word, vertex_text, count_text, polygon_text}
 use Rattle.srs_file.specs.Grammar.{SpellsPolygon}
 use Rattle.srs_file.specs.Ring.{RingView, SaysVertex, Adds, Opens}
-use Rattle.srs_file.specs.Outline.{StepsFrom, Steps, Slips, IsEnd, start, ReadsAs, IsRefusal, IsOutside}
+use Rattle.srs_file.specs.PolygonReading.{StepsFrom, Steps, Slips, IsEnd, start, ReadsAs, IsRefusal, IsOutside}
 use Rattle.srs_file.proofs.RingLaws.{numbers_of}
-use Rattle.srs_file.proofs.OutlineLaws.{exact}
+use Rattle.srs_file.proofs.PolygonLaws.{exact}
 
 -- the text of the vertices so far, of a ring to which `left` more come
 abbrev pub so_far : List Vertex → ℕ → List ℕ

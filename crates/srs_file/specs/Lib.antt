@@ -1,4 +1,6 @@
 pub mod Texts
 pub mod Grammar
+pub mod Certificates
+pub mod Heights
 pub mod Ring
-pub mod Outline
+pub mod PolygonReading

@@ -62,7 +62,10 @@ outcome_text (Outside cycle) = ended (line_of (codes "out") (pos (length cycle) 
 outcome_text (Cut h) = ended (line_of (codes "cut") (h.a ∷ h.b ∷ h.c ∷ []))
 outcome_text (Left cause) = ended (codes "left " ++ cause_text cause)
 
+-- what stands before the tree: the version, the polygon and the limits
+abbrev pub head_text : List Vertex → Budget → List ℕ
+head_text vs b = count_text (codes "srs") 1 ++ ring_text vs ++ limits_text b
+
 -- the text of a certificate: its version, the polygon, the limits, the outcomes of its cells in preorder, and `end`
 abbrev pub certificate_text : List Vertex → Budget → List Outcome → List ℕ
-certificate_text vs b outcomes =
-    count_text (codes "srs") 1 ++ ring_text vs ++ limits_text b ++ flat_map outcome_text outcomes ++ ended (codes "end")
+certificate_text vs b outcomes = head_text vs b ++ flat_map outcome_text outcomes ++ ended (codes "end")

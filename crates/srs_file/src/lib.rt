@@ -1,11 +1,13 @@
-//! The texts of polygons and certificates: what they say, and the reader of polygons.
+//! The texts of polygons and certificates: what they say, and their readers.
 #![tactic(auto)]
 
-mod outline;
+mod certificates;
+mod polygon_reader;
 mod ring;
 mod vertex;
 
-pub use outline::{Outline, Phase, PolygonReader, one_polygon, read_polygon};
+pub use certificates::Cert;
+pub use polygon_reader::{Phase, PolygonReader, one_polygon, read_polygon};
 pub use ring::Ring;
 pub use srs_line::{FileErr, Slip};
 pub use vertex::word_of;

@@ -6,7 +6,6 @@ ghost use Rattle.srs_plane.specs.Polygons.{IsCounted, IsPolygon, region_of};
 ghost use Rattle.srs_line.specs.Refusal.{IsSlip};
 ghost use Rattle.srs_file.specs.Ring.{Opens, IsOpenSlip, Adds, SlipsAdd, TakesVertex, SlipsVertex, IsTurn};
 
-use crate::Outline;
 use crate::vertex::vertex;
 use srs_line::{LineErr, Slip, count_of};
 use srs_plane::{PolyErr, Region, Vertex, Vertices, polygon};
@@ -101,22 +100,12 @@ impl Ring {
         Ok(())
     }
 
-    /// The vertices with their region, once all of them are there.
-    pub fn outline(self) -> Option<Outline>
-        ensures vertices { IfSome result (λ o. o.vertices ≡ self.vertices) }
-        ensures region { IfSome result (λ o. self.region ≡ Some o.region) }
-        ensures none { IfNone result (self.region ≡ None) }
+    /// The vertices, and their region once all of them are there.
+    pub fn into_parts(self) -> (Vertices, Option<Region>)
+        ensures vertices { result.0 ≡ self.vertices }
+        ensures region { result.1 ≡ self.region }
     {
-        let Ring {
-            alloc: _,
-            left: _,
-            vertices,
-            region,
-        } = self;
-        match region {
-            Some(region) => Some(Outline { vertices, region }),
-            None => None,
-        }
+        (self.vertices, self.region)
     }
 }
 

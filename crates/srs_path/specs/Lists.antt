@@ -23,6 +23,13 @@ pub record MakesRanks (pairs : List V2) (ranks : List ℤ) : Type 0 where
   pub narrow : All IsNarrow pairs
   pub within : All (λ z. (pos 0 ≤ℤ z) × (z ≤ℤ pos 16384)) ranks
 
+-- 1 to 16384 pairs, strictly ascending and with entries within 2^37, each with a rank from 0 to 16384
+pub record IsRankList (entries : List (V2 × ℕ)) : Type 0 where
+  pub some : 1 ≤ length entries
+  pub short : length entries ≤ 16384
+  pub ascending : AllPairs (λ (e f : V2 × ℕ). Precedes e.0 f.0) entries
+  pub each : All (λ (e : V2 × ℕ). IsNarrow e.0 × (e.1 ≤ 16384)) entries
+
 -- each pair with its rank
 abbrev pub ranked : List V2 → List ℤ → List (V2 × ℕ)
 ranked pairs ranks = zip pairs (map unsigned_abs ranks)

@@ -2,7 +2,7 @@
 ghost use Rattle.std.specs.Prelude.{◌≡◌, ◌↔◌, ◌<◌, pos, ◌≤ℤ◌, length, slice_get, Some, All, AllPairs, IsTrue, IfSome, IfNone, IfOk, IsSome, MatchOption, Contains, ℕ};
 ghost use Rattle.srs_map.specs.Step.{IsNarrow};
 ghost use Rattle.srs_path.specs.Core.{Precedes};
-ghost use Rattle.srs_path.specs.Lists.{MakesRanks, ranked};
+ghost use Rattle.srs_path.specs.Lists.{MakesRanks, IsRankList, ranked};
 
 use crate::cycles::copy_of;
 use srs_num::{NoMemory, Pairs, V2};
@@ -56,7 +56,8 @@ impl Ranks {
     }
 
     pub fn len(&self) -> u32
-        ensures { result ≡ length self.now }
+        ensures len { result ≡ length self.now }
+        ensures list { IsRankList self.now }
     {
         self.pairs.len() as u32
     }

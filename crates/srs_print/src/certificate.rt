@@ -1,36 +1,43 @@
 // The text of a certificate.
 ghost use Rattle.std.specs.Prelude.{◌≡◌, ◌++◌, [], ◌∷◌, codes, OnOk, OnErr};
 ghost use Rattle.std.specs.List.{flat_map};
-ghost use Rattle.srs_file.specs.Texts.{count_text, vertex_text, ring_text, limits_text, certificate_text};
+ghost use Rattle.srs_file.specs.Texts.{count_text, vertex_text, ring_text, limits_text, head_text, outcome_text};
+ghost use Rattle.srs_file.specs.Certificates.{outcomes_of, cert_text};
 ghost use Rattle.srs_print.specs.Fronts.{StopsIn};
 
 use crate::line::{put_count, put_line};
 use crate::node::put_outcome;
-use srs_file::word_of;
-use srs_path::{Limits, Outcome};
+use srs_file::{Cert, word_of};
+use srs_path::Limits;
 use srs_plane::Vertex;
 use srs_text::{Bytes, NoMemory};
+use srs_tree::Journal;
 
-/// Appends the text of the certificate whose tree is the one outcome. An `Err` is want of memory, and leaves a front of
-/// the text behind what was there.
-pub fn put_certificate(
-    out: &mut Bytes,
-    vertices: &[Vertex],
-    limits: &Limits,
-    outcome: &Outcome,
-) -> Result<(), NoMemory>
-    ensures ok { OnOk result (out.new ≡ out.old ++ certificate_text vertices.now limits.now (outcome.now ∷ [])) }
-    ensures err { OnErr result (StopsIn out.old (certificate_text vertices.now limits.now (outcome.now ∷ [])) out.new) }
+/// Appends the text of the certificate. An `Err` is want of memory, and leaves a front of the text behind what was there.
+pub fn put_cert(out: &mut Bytes, c: &Cert) -> Result<(), NoMemory>
+    ensures ok { OnOk result (out.new ≡ out.old ++ cert_text c.now) }
+    ensures err { OnErr result (StopsIn out.old (cert_text c.now) out.new) }
 {
-    put_head(out, vertices, limits)?;
-    put_outcome(out, outcome)?;
+    put_head(out, c.vertices(), &c.limits())?;
+    put_nodes(out, c.events())?;
     out.extend(b"end\n")
 }
 
+// The outcomes of the events.
+fn put_nodes(out: &mut Bytes, events: &Journal) -> Result<(), NoMemory>
+    ensures ok { OnOk result (out.new ≡ out.old ++ flat_map outcome_text (outcomes_of events.now)) }
+    ensures err { OnErr result (StopsIn out.old (flat_map outcome_text (outcomes_of events.now)) out.new) }
+{
+    for i in 0..events.len() {
+        put_outcome(out, &events.get(i).outcome)?;
+    }
+    Ok(())
+}
+
 // All that stands before the tree.
-fn put_head(out: &mut Bytes, vertices: &[Vertex], limits: &Limits) -> Result<(), NoMemory>
-    ensures ok { OnOk result (out.new ≡ out.old ++ (count_text (codes "srs") 1 ++ ring_text vertices.now ++ limits_text limits.now)) }
-    ensures err { OnErr result (StopsIn out.old (count_text (codes "srs") 1 ++ ring_text vertices.now ++ limits_text limits.now) out.new) }
+pub(crate) fn put_head(out: &mut Bytes, vertices: &[Vertex], limits: &Limits) -> Result<(), NoMemory>
+    ensures ok { OnOk result (out.new ≡ out.old ++ head_text vertices.now limits.now) }
+    ensures err { OnErr result (StopsIn out.old (head_text vertices.now limits.now) out.new) }
 {
     put_count(out, b"srs", 1)?;
     put_ring(out, vertices)?;

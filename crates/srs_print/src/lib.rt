@@ -4,5 +4,7 @@
 mod certificate;
 mod line;
 mod node;
+mod single;
 
-pub use certificate::put_certificate;
+pub use certificate::put_cert;
+pub use single::put_certificate;

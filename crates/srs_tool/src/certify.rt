@@ -1,6 +1,6 @@
 // The command `certify`.
 ghost use Rattle.std.specs.Prelude.{◌≡◌, ◌≤◌, ◌^◌, IfOk, length};
-ghost use Rattle.srs_plane.specs.Polygons.{IsPolygon, region_of};
+ghost use Rattle.srs_plane.specs.Polygons.{region_of};
 ghost use Rattle.srs_file.specs.Grammar.{SpellsPolygon};
 ghost use Rattle.srs_tool.specs.Output.{SpellsNoPolygon, IsCertificate};
 ghost use Rattle.srs_tool.specs.Ends.{Tells};
@@ -8,10 +8,10 @@ ghost use Rattle.srs_tool.specs.Ends.{Tells};
 use crate::say::say;
 use crate::status::Status;
 use srs_cell::Cell;
-use srs_file::{FileErr, Outline, read_polygon};
+use srs_file::{FileErr, read_polygon};
 use srs_num::NoMemory;
 use srs_path::{Last, Limits};
-use srs_plane::{Region, Vertex};
+use srs_plane::{Vertex, Vertices};
 use srs_print::put_certificate;
 use srs_refine::refine;
 use srs_text::{Bytes, Sink};
@@ -24,7 +24,7 @@ pub fn answer<K: Sink>(alloc: Global, limits: &Limits, input: &[u8], sink: &mut 
     ensures memory { result ≡ Status.NoMemory → sink.new ≡ sink.old }
 {
     match read_polygon(alloc, input) {
-        Ok(outline) => certify(alloc, limits, input, outline, sink),
+        Ok((vertices, cell)) => certify(alloc, limits, input, vertices, cell, sink),
         Err(FileErr::At(_, _)) => refuse(limits, input, sink),
         Err(FileErr::NoMemory) => Status::NoMemory,
     }
@@ -45,17 +45,17 @@ fn certify<K: Sink>(
     alloc: Global,
     limits: &Limits,
     input: &[u8],
-    outline: Outline,
+    vertices: Vertices,
+    cell: Cell,
     sink: &mut K,
 ) -> Status
-    requires polygon { SpellsPolygon input.now outline.vertices }
-    requires region { outline.region ≡ region_of outline.vertices }
+    requires polygon { SpellsPolygon input.now vertices }
+    requires region { cell ≡ region_of vertices }
     ensures told { Tells limits.now input.now result (K.got sink.old) (K.got sink.new) (K.faults sink.old) (K.faults sink.new) }
     ensures memory { result ≡ Status.NoMemory → sink.new ≡ sink.old }
 {
     let _input = input;
-    let vertices = outline.vertices;
-    match certificate(alloc, limits, vertices.as_slice(), outline.region) {
+    match certificate(alloc, limits, vertices.as_slice(), &cell) {
         Ok(text) => say(Status::Done, sink, text.as_slice()),
         Err(NoMemory) => Status::NoMemory,
     }
@@ -66,16 +66,12 @@ fn certificate(
     alloc: Global,
     limits: &Limits,
     vertices: &[Vertex],
-    region: Region,
+    cell: &Cell,
 ) -> Result<Bytes, NoMemory>
-    requires polygon { IsPolygon vertices.now }
-    requires region { region ≡ region_of vertices.now }
+    requires { cell.now ≡ region_of vertices.now }
     ensures { IfOk result (IsCertificate vertices.now limits.now) }
 {
-    let Some(cell) = Cell::of(alloc, region)? else {
-        unreachable!()
-    };
-    let finding = refine(alloc, &cell, Some(Last::Depth), limits.wits())?;
+    let finding = refine(alloc, cell, Some(Last::Depth), limits.wits())?;
     let mut text = Bytes::new(alloc);
     match put_certificate(&mut text, vertices, limits, finding.outcome()) {
         Ok(()) => Ok(text),

@@ -1,5 +1,5 @@
 -- The events of a whole tree in preorder, as a certificate lists them.
-use Rattle.std.specs.Prelude.{◌≡◌, ⊤, ◌<◌, ◌≤◌, List, [], ◌∷◌, ◌++◌, length}
+use Rattle.std.specs.Prelude.{◌≡◌, ⊤, ℕ, ◌<◌, ◌≤◌, List, [], ◌∷◌, ◌++◌, length}
 use Rattle.std.specs.List.{All}
 use Rattle.srs_path.specs.declared.paths.Side.{Side}
 use Rattle.srs_path.specs.declared.outcomes.Outcome.{Outcome}
@@ -20,17 +20,17 @@ ListsTrees (path ∷ waiting) (e ∷ H) = (e.path ≡ path) × ListsTrees (parts
 abbrev pub ListsWholeTree : History → Type 0
 ListsWholeTree H = ListsTrees ([] ∷ []) H
 
--- the outcome of the cell at the path keeps to the limits: a cut above the greatest depth, and no more witnesses or entries
--- than are allowed
-abbrev pub IsAllowed : Budget → List Side → Outcome → Type 0
-IsAllowed b path (Inside ranks) = length ranks ≤ b.wits
-IsAllowed b path (Outside cycle) = length cycle ≤ b.wits
-IsAllowed b path (Cut h) = length path < b.depth
-IsAllowed b path (Left cause) = ⊤
+-- the outcome of a cell at this depth keeps to the limits: a cut above the greatest depth, and no more witnesses or
+-- entries than are allowed
+abbrev pub AllowsAt : Budget → ℕ → Outcome → Type 0
+AllowsAt b depth (Inside ranks) = length ranks ≤ b.wits
+AllowsAt b depth (Outside cycle) = length cycle ≤ b.wits
+AllowsAt b depth (Cut h) = depth < b.depth
+AllowsAt b depth (Left cause) = ⊤
 
 -- the event keeps to the limits
 abbrev pub KeepsTo : Budget → Entry → Type 0
-KeepsTo b e = IsAllowed b e.path e.outcome
+KeepsTo b e = AllowsAt b (length e.path) e.outcome
 
 -- H has no more cells than are allowed, and each of its events keeps to the limits
 pub record IsWithin (b : Budget) (H : History) : Type 0 where

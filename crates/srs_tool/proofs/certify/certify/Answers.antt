@@ -10,7 +10,7 @@ returns-in-Ok-clause-told g c =
     let T : List ℕ → Type 0 = λ t. Says Done c.say.result (g.K.Sink.got c.args.sink.now) (g.K.Sink.got c.say.new.sink) (g.K.Sink.faults c.args.sink.now) (g.K.Sink.faults c.say.new.sink) t in
     told_done c.args.limits.now c.args.input.now c.in-Ok.text c.say.result _ _ _ _
     (record {
-      vertices = c.args.outline.vertices;
+      vertices = c.args.vertices;
       polygon = c.requires.polygon;
       certificate = subst (λ vs. IsCertificate vs c.args.limits.now c.in-Ok.text) c.as_slice.ensures c.in-Ok.ensures;
     }) (subst T c.as_slice-in-Ok.ensures c.say.ensures)

@@ -1,9 +1,9 @@
 use Rattle.std.proofs.Common.{◌≡◌, sym, ◌∙◌, ap}
-use Rattle.srs_file.specs.declared.outline.PolygonReader.{PolygonReader}
-use Rattle.srs_file.specs.Outline.{start}
-use Rattle.srs_file.proofs.OutlineLaws.{exact}
+use Rattle.srs_file.specs.declared.polygon_reader.PolygonReader.{PolygonReader}
+use Rattle.srs_file.specs.PolygonReading.{start}
+use Rattle.srs_file.proofs.PolygonLaws.{exact}
 use Rattle.srs_file.proofs.PolygonTexts.{read_is_text, text_is_read}
-use Rattle.srs_file.proofs.outline.one_polygon.Goals as goal
+use Rattle.srs_file.proofs.polygon_reader.one_polygon.Goals as goal
 
 pub returns-clause-never_both : goal.returns-clause-never_both
 returns-clause-never_both c text vs line slip s f =

@@ -7,9 +7,9 @@ use Rattle.srs_line.specs.declared.slip.FileErr.{FileErr}
 use Rattle.srs_line.specs.declared.slip.FileErr.TheVariants.{At, NoMemory}
 use Rattle.srs_line.specs.Machine.{IsRead, SlipsAt}
 use Rattle.srs_line.specs.Refusal.{IsRefused}
-use Rattle.srs_file.specs.declared.outline.Phase.{Phase}
-use Rattle.srs_file.specs.declared.outline.Phase.TheVariants.{Head, Vertices, Done}
-use Rattle.srs_file.specs.declared.outline.PolygonReader.{PolygonReader}
+use Rattle.srs_file.specs.declared.polygon_reader.Phase.{Phase}
+use Rattle.srs_file.specs.declared.polygon_reader.Phase.TheVariants.{Head, Vertices, Done}
+use Rattle.srs_file.specs.declared.polygon_reader.PolygonReader.{PolygonReader}
 use Rattle.srs_file.specs.Grammar.{SpellsPolygon}
 use Rattle.srs_file.specs.Ring.{RingView, Opens, IsOpenSlip, TakesVertex, SlipsVertex}
 

@@ -1,23 +1,18 @@
 // Reads the text of a polygon.
 ghost use Rattle.std.specs.Prelude.{List, ℕ, ◌≡◌, ◌+◌, ◌^◌, ◌<◌, ◌↔◌, IsTrue, OnOk, IfOk, IfErr, length};
 ghost use Rattle.srs_plane.specs.declared.polygons.Vertex.{Vertex};
+ghost use Rattle.srs_plane.specs.Regions.{HasPoint};
 ghost use Rattle.srs_plane.specs.Polygons.{region_of};
 ghost use Rattle.srs_line.specs.declared.slip.Slip.{Slip};
 ghost use Rattle.srs_line.specs.Refusal.{IsSlip};
 ghost use Rattle.srs_file.specs.Grammar.{SpellsPolygon};
-ghost use Rattle.srs_file.specs.Outline.{start, StepsHead, SlipsHead, StepsVertices, SlipsVertices, ReadsAs, FirstSlip, IsRefusal, IsOutside};
+ghost use Rattle.srs_file.specs.PolygonReading.{start, StepsHead, SlipsHead, StepsVertices, SlipsVertices, ReadsAs, FirstSlip, IsRefusal, IsOutside};
 
 use crate::Ring;
+use srs_cell::Cell;
 use srs_line::{FileErr, LineErr, LineMachine, Slip, never_both, one_slip, read_lines, read_once};
 use srs_plane::{Region, Vertices};
 use std::alloc::Global;
-
-/// A polygon: its vertices, and its region.
-#[derive(Drop)]
-pub struct Outline {
-    pub vertices: Vertices,
-    pub region: Region,
-}
 
 /// What a reader of a polygon waits for: the number of vertices, a vertex or the last line, or nothing.
 #[derive(Clone, Copy, Debug, PartialEq, Eq)]
@@ -74,7 +69,7 @@ impl PolygonReader {
 }
 
 impl LineMachine for PolygonReader {
-    ghost use Rattle.srs_file.specs.Outline.{Steps, Slips, IsEnd};
+    ghost use Rattle.srs_file.specs.PolygonReading.{Steps, Slips, IsEnd};
 
     ghost steps = { Steps };
 
@@ -95,19 +90,33 @@ impl LineMachine for PolygonReader {
     }
 }
 
-/// The polygon that the text spells, or the first slip of the text, its lines counted from 1. The text is shorter than
-/// 2^32 - 1 bytes.
-pub fn read_polygon(alloc: Global, text: &[u8]) -> Result<Outline, FileErr>
+/// The vertices of the polygon that the text spells, and the cell of its region; or the first slip of the text, its lines
+/// counted from 1. The text is shorter than 2^32 - 1 bytes.
+pub fn read_polygon(alloc: Global, text: &[u8]) -> Result<(Vertices, Cell), FileErr>
     requires { length text.now + 1 < 2 ^ 32 }
-    ensures accepted { IfOk result (λ o. SpellsPolygon text.now o.vertices × (o.region ≡ region_of o.vertices)) }
+    ensures accepted { IfOk result (λ r. SpellsPolygon text.now r.0 × (r.1 ≡ region_of r.0)) }
     ensures refused { IfErr result (IsRefusal text.now) }
     ensures outside { IfErr result (IsOutside text.now) }
 {
     let mut reader = PolygonReader::new(alloc);
     read_lines(&mut reader, text)?;
-    match reader.ring.outline() {
-        Some(outline) => Ok(outline),
+    let (vertices, region) = reader.ring.into_parts();
+    match region {
+        Some(region) => Ok((vertices, inhabited(alloc, region)?)),
         None => unreachable!(),
+    }
+}
+
+// The cell of a region that has a point.
+pub(crate) fn inhabited(alloc: Global, region: Region) -> Result<Cell, FileErr>
+    requires { HasPoint region }
+    ensures ok { IfOk result (λ cell. cell ≡ region) }
+    ensures err { IfErr result (λ e. e ≡ FileErr.NoMemory) }
+{
+    match Cell::of(alloc, region) {
+        Ok(Some(cell)) => Ok(cell),
+        Ok(None) => unreachable!(),
+        Err(_) => Err(FileErr::NoMemory),
     }
 }
 

@@ -4,10 +4,10 @@ use Rattle.srs_line.specs.declared.slip.Slip.{Slip}
 use Rattle.srs_line.specs.declared.slip.Slip.TheVariants.{Count}
 use Rattle.srs_line.specs.Machine.{IsExact}
 use Rattle.srs_line.proofs.FieldLaws.{no_count_slip, count_slip_once}
-use Rattle.srs_file.specs.declared.outline.Phase.{Phase}
-use Rattle.srs_file.specs.declared.outline.Phase.TheVariants.{Head, Vertices, Done}
-use Rattle.srs_file.specs.declared.outline.PolygonReader.{PolygonReader}
-use Rattle.srs_file.specs.Outline.{StepsFrom, SlipsFrom, Steps, Slips, IsEnd}
+use Rattle.srs_file.specs.declared.polygon_reader.Phase.{Phase}
+use Rattle.srs_file.specs.declared.polygon_reader.Phase.TheVariants.{Head, Vertices, Done}
+use Rattle.srs_file.specs.declared.polygon_reader.PolygonReader.{PolygonReader}
+use Rattle.srs_file.specs.PolygonReading.{StepsFrom, SlipsFrom, Steps, Slips, IsEnd}
 use Rattle.srs_file.proofs.RingLaws.{opens_once, takes_once, ring_apart, ring_slips_once}
 
 once : (phase : Phase) (s t u : PolygonReader) (line : List ℕ) → StepsFrom phase s line t → StepsFrom phase s line u → t ≡ u

@@ -2,7 +2,7 @@ use Rattle.std.proofs.Common.{◌≡◌, ◌++◌, ◌∷◌, [], codes, flat_ma
 use Rattle.std.proofs.lemmas.Result.{err_from_is_err_and, on_err_weaker}
 use Rattle.srs_file.specs.Texts.{count_text, ring_text, limits_text, outcome_text, ended}
 use Rattle.srs_print.proofs.FrontLemmas.{nothing, sooner, later, both}
-use Rattle.srs_print.proofs.certificate.put_certificate.Goals as goal
+use Rattle.srs_print.proofs.single.put_certificate.Goals as goal
 
 pub returns-in_err-put_head-clause-err : goal.returns-in_err-put_head-clause-err
 returns-in_err-put_head-clause-err c =
