@@ -1,0 +1,5 @@
+pub mod PlaceLemmas
+pub mod Spans
+pub mod Entries
+pub mod Answering
+pub mod RowCounts
