@@ -3,3 +3,4 @@ pub mod Spans
 pub mod Entries
 pub mod Answering
 pub mod RowCounts
+pub mod Soundness

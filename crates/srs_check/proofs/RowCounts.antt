@@ -2,7 +2,7 @@
 use Rattle.std.proofs.Common.{◌≡◌, ◌≢◌, inl, inr, ℕ, zero, suc, ◌+◌, ◌<◌, ◌≤◌, Bool, true, false, cond, List, [], ◌∷◌, ◌++◌, length, take, set, get_or, slice_get, Some, refl, sym, ap, subst, ◌∙◌, arith, get_or-set_same, get_or-set_other}
 use Rattle.std.specs.Prelude.{◌==◌, nat_le, count_by}
 use Rattle.std.proofs.lemmas.Bool.Decides.{nat_tests, eqb_tells}
-use Rattle.std.proofs.lemmas.List.{length-take-le, length-set, take-all}
+use Rattle.std.proofs.lemmas.List.{length-take-le, length-set, take_all}
 use Rattle.std.proofs.lemmas.List.Sums.{sum_by-cons, count_by_more_yes, count_by_more_no, count_by-le-length}
 use Rattle.std.proofs.lemmas.Option.{slice_get_within, get_or_from_slice_get}
 use Rattle.srs_path.specs.Views.{Entry}
@@ -58,7 +58,7 @@ pub no_rows : (H : History) → RowsSoFar H 0 (zeros 49)
 no_rows H = record { size = refl; each = λ k l. zeros_read 49 k }
 
 pub all_rows : (H : History) (i : ℕ) (rows : List ℕ) → RowsSoFar H i rows → length H ≤ i → CountsRows H rows
-all_rows H i rows s l k b = s.each k b ∙ ap (λ (x : History). nodes_at x k) (take-all i H l)
+all_rows H i rows s l k b = s.each k b ∙ ap (λ (x : History). nodes_at x k) (take_all i H l)
 
 pub so_far_few : (H : History) (i : ℕ) (rows : List ℕ) (k : ℕ) → RowsSoFar H i rows → k < 49 → i ≤ length H → get_or rows k 0 ≤ i
 so_far_few H i rows k s l le = omega (arith, s.each k l, at_few (take i H) k, length-take-le i H le)

@@ -1,8 +1,8 @@
 // The test of one node.
-ghost use Rattle.std.specs.Prelude.{◌≡◌, ◌≤◌, ◌<◌, ◌+◌, ℕ, length, slice_get, Some, IfOk, IfErr, OnOk};
+ghost use Rattle.std.specs.Prelude.{◌≡◌, ◌≤◌, ◌<◌, ◌+◌, length, slice_get, Some, IfOk, IfErr, OnOk};
 ghost use Rattle.srs_path.specs.declared.outcomes.Outcome.TheVariants.{Outside, Left};
-ghost use Rattle.srs_path.specs.Views.{Budget, Entry};
-ghost use Rattle.srs_tree.specs.Tree.{History};
+ghost use Rattle.srs_path.specs.Cutout.{Covers};
+ghost use Rattle.srs_path.specs.Views.{Entry};
 ghost use Rattle.srs_tree.specs.Growth.{IsProvedOf};
 ghost use Rattle.srs_check.specs.Budgets.{CountsRows};
 ghost use Rattle.srs_check.specs.Proving.{Proves};
@@ -42,10 +42,11 @@ pub(crate) fn test_node(
     ensures { IfOk result (λ t. (e : Entry) → slice_get c.now.events i ≡ Some e → IsTested cell.now c.now.limits c.now.events (length e.path) e.outcome t) }
 {
     let event = c.events().get(i);
+    let depth = event.path.len();
     let tested = match event.outcome.as_ref() {
         Outcome::Inside(ranks) => check_inside(cell, ranks),
         Outcome::Outside(cycle) => check_outside(cell, cycle),
-        Outcome::Left(cause) => check_left(c, rows, cell, event.path.len(), *cause),
+        Outcome::Left(cause) => check_left(c, rows, cell, depth, *cause),
         Outcome::Cut(h) => return check_cut(alloc, cell, h),
     };
     match tested {
@@ -56,10 +57,12 @@ pub(crate) fn test_node(
 
 // Whether the cycle covers the cell.
 fn check_outside(cell: &Cell, cycle: &Cycle) -> Result<(), Fault>
-    ensures ok { (L : Budget) (H : History) (k : ℕ) → OnOk result (Proves cell.now L H k (Outside cycle.now)) }
+    ensures ok { OnOk result (Covers cell.now cycle.now) }
     ensures sound { OnOk result (IsProvedOf cell.now (Outside cycle.now)) }
     ensures err { IfErr result (IsCycleFault cell.now cycle.now) }
 {
+    // A cycle has an entry, and its first pair isn't (0,0).
+    let _ = cycle.len();
     match judge(cell, cycle) {
         Judged::Covers => Ok(()),
         Judged::Fails { at, .. } => Err(Fault::NotCycle(at)),
