@@ -4,3 +4,8 @@ pub mod Entries
 pub mod Answering
 pub mod RowCounts
 pub mod Soundness
+pub mod Preordered
+pub mod Cuts
+pub mod NodeCounts
+pub mod WalkStates
+pub mod Excluded

@@ -1,13 +1,13 @@
 -- The numbers of nodes by depth, counted along the events.
 use Rattle.std.proofs.Common.{◌≡◌, ◌≢◌, inl, inr, ℕ, zero, suc, ◌+◌, ◌<◌, ◌≤◌, Bool, true, false, cond, List, [], ◌∷◌, ◌++◌, length, take, set, get_or, slice_get, Some, refl, sym, ap, subst, ◌∙◌, arith, get_or-set_same, get_or-set_other}
-use Rattle.std.specs.Prelude.{◌==◌, nat_le, count_by}
+use Rattle.std.specs.Prelude.{◌==◌, ◌*◌, ◌↔◌, IsTrue, nat_le, nat_lt, count_by}
 use Rattle.std.proofs.lemmas.Bool.Decides.{nat_tests, eqb_tells}
 use Rattle.std.proofs.lemmas.List.{length-take-le, length-set, take_all}
 use Rattle.std.proofs.lemmas.List.Sums.{sum_by-cons, count_by_more_yes, count_by_more_no, count_by-le-length}
 use Rattle.std.proofs.lemmas.Option.{slice_get_within, get_or_from_slice_get}
-use Rattle.srs_path.specs.Views.{Entry}
+use Rattle.srs_path.specs.Views.{Budget, Entry}
 use Rattle.srs_tree.specs.Tree.{History}
-use Rattle.srs_check.specs.Budgets.{nodes_upto, nodes_at, CountsRows}
+use Rattle.srs_check.specs.Budgets.{nodes_upto, nodes_at, SpendsCells, CountsRows}
 
 abbrev one_if : Bool → ℕ
 one_if b = cond b 1 0
@@ -86,3 +86,15 @@ module _ (H : History) (i : ℕ) (e : Entry) (here : slice_get H i ≡ Some e) w
             let differs : k ≢ length e.path = λ q. t.1 (sym q) in
             get_or-set_other rows (length e.path) k (get_or rows (length e.path) 0 + 1) 0 differs ∙ s.each k l ∙ sym (at_other k t.0)
       ]
+
+less_true : (a b : ℕ) → IsTrue (nat_lt a b) → a < b
+less_true a b t = grind (arith, nat_tests)
+
+true_less : (a b : ℕ) → a < b → IsTrue (nat_lt a b)
+true_less a b l = grind (arith, nat_tests)
+
+pub spends_is : (L : Budget) (H : History) (k nodes row cells : ℕ) → k < L.depth → nodes ≡ nodes_upto H k → row ≡ nodes_at H k → cells ≡ L.cells → IsTrue (nat_lt cells (nodes + 2 * row)) ↔ SpendsCells L H k
+spends_is L H k nodes row cells above a b d = (
+  λ t. record { above = above; spent = omega (arith, less_true cells (nodes + 2 * row) t, a, b, d) },
+  λ s. true_less cells (nodes + 2 * row) (omega (arith, s.spent, a, b, d)),
+)

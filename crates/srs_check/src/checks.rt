@@ -1,12 +1,12 @@
 // The check of a certificate.
-ghost use Rattle.std.specs.Prelude.{◌≡◌, ◌≤◌, length, IfOk, IfNone, MatchOption};
+ghost use Rattle.std.specs.Prelude.{◌≡◌, IfOk, IfNone, MatchOption};
 ghost use Rattle.srs_plane.specs.Polygons.{region_of};
 ghost use Rattle.srs_check.specs.Proving.{IsProved};
 ghost use Rattle.srs_check.specs.Faults.{counts_of, IsChecked, IsFaultOf};
 ghost use Rattle.srs_check.specs.Certified.{IsCertified, Certifies};
 
 use crate::nodes::{Tested, test_node};
-use crate::rows::rows_of;
+use crate::rows::{node_count, rows_of};
 use crate::waiting::Waiting;
 use crate::{Checked, Counts, Fault};
 use srs_cell::Cell;
@@ -14,7 +14,6 @@ use srs_file::Cert;
 use srs_num::NoMemory;
 use srs_path::Outcome;
 use srs_plane::{PolyErr, polygon};
-use srs_tree::Journal;
 use std::alloc::Global;
 
 /// Tests each node in preorder. `Valid` exactly where each proves itself; then the leaves partition the polygon, each cut
@@ -28,7 +27,7 @@ pub fn check(alloc: Global, c: &Cert) -> Result<Checked, NoMemory>
     let root = root_of(alloc, c)?;
     match first_fault(alloc, c, root)? {
         Some((node, fault)) => Ok(Checked::Bad(c.line(node), fault)),
-        None => Ok(Checked::Valid(count_nodes(c.events()))),
+        None => Ok(Checked::Valid(count_nodes(c))),
     }
 }
 
@@ -55,25 +54,24 @@ fn first_fault(alloc: Global, c: &Cert, root: Cell) -> Result<Option<(u32, Fault
     ensures fault { IfOk result (λ found. MatchOption found (IsProved c.now) (λ f. IsFaultOf c.now f.0 f.1)) }
     ensures certified { IfOk result (λ found. IfNone found (IsCertified c.now)) }
 {
-    let rows = rows_of(c.events());
+    let rows = rows_of(c);
     let mut waiting = Waiting::of(alloc, root);
-    for i in 0..c.events().len() {
+    for i in 0..node_count(c) {
         let Some(cell) = waiting.take() else {
             unreachable!()
         };
         match test_node(alloc, c, &rows, i, &cell)? {
             Tested::Leaf => {}
             Tested::Divided(ge, lt) => waiting.divide(ge, lt)?,
-            Tested::Wrong(fault) => return Ok(Some((i as u32, fault))),
+            Tested::Wrong(fault) => return Ok(Some((i, fault))),
         }
     }
     Ok(None)
 }
 
 // How many nodes there are, and how many of each kind.
-fn count_nodes(events: &Journal) -> Counts
-    requires { length events.now ≤ 65536 }
-    ensures { result ≡ counts_of events.now }
+fn count_nodes(c: &Cert) -> Counts
+    ensures { result ≡ counts_of c.now.events }
 {
     let mut counts = Counts {
         cells: 0,
@@ -82,9 +80,9 @@ fn count_nodes(events: &Journal) -> Counts
         cut: 0,
         left: 0,
     };
-    for i in 0..events.len() {
+    for i in 0..node_count(c) {
         counts.cells += 1;
-        match events.get(i).outcome.as_ref() {
+        match c.events().get(i as u64).outcome.as_ref() {
             Outcome::Inside(_) => counts.inside += 1,
             Outcome::Outside(_) => counts.outside += 1,
             Outcome::Cut(_) => counts.cut += 1,

@@ -33,7 +33,7 @@ pub(crate) fn test_node(
     alloc: Global,
     c: &Cert,
     rows: &Rows,
-    i: u64,
+    i: u32,
     cell: &Cell,
 ) -> Result<Tested, NoMemory>
     requires there { i < length c.now.events }
@@ -41,7 +41,7 @@ pub(crate) fn test_node(
     requires few { (e : Entry) → slice_get c.now.events i ≡ Some e → length cell.now ≤ 16 + length e.path }
     ensures { IfOk result (λ t. (e : Entry) → slice_get c.now.events i ≡ Some e → IsTested cell.now c.now.limits c.now.events (length e.path) e.outcome t) }
 {
-    let event = c.events().get(i);
+    let event = c.events().get(i as u64);
     let depth = event.path.len();
     let tested = match event.outcome.as_ref() {
         Outcome::Inside(ranks) => check_inside(cell, ranks),
@@ -88,7 +88,7 @@ fn check_left(c: &Cert, rows: &Rows, cell: &Cell, depth: u32, cause: Cause) -> R
 {
     let holds = match cause {
         Cause::Depth(_) => depth == c.limits().depth(),
-        Cause::Cells(_) => spends_cells(c.events(), c.limits(), rows, depth),
+        Cause::Cells(_) => spends_cells(c, rows, depth),
         Cause::Thin => line(cell).is_none(),
         Cause::Memory => true,
     };
