@@ -61,7 +61,7 @@ closed_in R z i = record {
 }
 
 -- what is at least 0 on the region is so on the closed halves
-closed_too : (R : Area) (z p : Point) (h : LinearForm) → IsInClosed R z → IsIn R p → ((r : Point) → IsIn R r → pos 0 ≤ℤ value h r) → pos 0 ≤ℤ value h z
+pub closed_too : (R : Area) (z p : Point) (h : LinearForm) → IsInClosed R z → IsIn R p → ((r : Point) → IsIn R r → pos 0 ≤ℤ value h r) → pos 0 ≤ℤ value h z
 closed_too R z p h z_in p_in good =
     let hp = good p p_in in
     let n = value h p +ℤ pos 1 in

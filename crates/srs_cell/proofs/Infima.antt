@@ -1,34 +1,25 @@
 -- What the corners at which a form is least tell of its infimum over a region.
-use Rattle.std.proofs.Common.{◌≡◌, ◌+◌, ◌*◌, ◌^◌, List, [], ◌∷◌, get_or, ℤ, pos, ◌+ℤ◌, ◌-ℤ◌, ◌*ℤ◌, neg_ℤ, ◌≤ℤ◌, ◌<ℤ◌, ◌⊎◌, inl, inr, All, Bool, IsTrue, ap, ◌∙◌, arith, lit≤}
+use Rattle.std.proofs.Common.{◌≡◌, ◌+◌, ◌*◌, ◌^◌, List, [], ◌∷◌, get_or, ℤ, pos, ◌+ℤ◌, ◌-ℤ◌, ◌*ℤ◌, neg_ℤ, ◌≤ℤ◌, ◌<ℤ◌, ◌⊎◌, inl, inr, All, Bool, IsTrue, ap, sym, ◌∙◌, arith, lit≤}
+use Rattle.std.specs.Prelude.{◌↔◌}
 use Rattle.std.proofs.lemmas.Int.{by_lt_z}
-use Rattle.std.proofs.lemmas.List.Elements.{All-weaker, All-contains, All-from_recursion, recursion_from_All}
+use Rattle.std.proofs.lemmas.List.Elements.{All-weaker, All-from_recursion, recursion_from_All}
 use Rattle.srs_num.specs.Points.{LinearForm, Point, value, opposite, IsWithin, IsFormSized, IsPointWithin}
 use Rattle.srs_num.proofs.Ranges.{within_product, within_sum, within_more}
-use Rattle.srs_num.proofs.Linear.{linear, mul_comm, mul_neg}
+use Rattle.srs_num.proofs.Linear.{linear, mul_comm, mul_neg, mul_one, zero_from}
 use Rattle.srs_num.proofs.Ring.{v, ◌⊕◌, ◌⊖◌, ◌⊗◌, minus, ring}
-use Rattle.srs_num.proofs.Combinations.{combine, mix, depth}
+use Rattle.srs_num.proofs.Combinations.{combine, depth}
 use Rattle.srs_num.proofs.Identities.{value-combine, value-depth, value-opposite}
 use Rattle.srs_plane.specs.declared.halves.Kind.{Kind}
 use Rattle.srs_plane.specs.declared.halves.Kind.TheVariants.{Ge, Gt}
-use Rattle.srs_plane.specs.Regions.{Area, Asks, IsInHalf, IsInClosed}
-use Rattle.srs_cell.specs.Hull.{IsInHalves, IsAbove}
+use Rattle.srs_plane.specs.Regions.{Area, Asks, IsInHalf}
+use Rattle.srs_cell.specs.Hull.{IsAbove}
 use Rattle.srs_cell.specs.Corners.{boxed, IsCell}
 use Rattle.srs_cell.specs.Bounds.{IsInfimum, IsSupremum, Takes, IsLow, IsHigh, IsBoundSized, IsLeastCorner, IsLeastSum}
 use Rattle.srs_cell.specs.declared.bounds.Bound.{Bound}
 use Rattle.srs_cell.proofs.Areas.{boxed_halves, in_boxed}
-use Rattle.srs_cell.proofs.Closed.{mix_in}
 use Rattle.srs_cell.proofs.Least.{sized_among}
-use Rattle.srs_cell.proofs.Extremes.{low_bound, near, attained_core}
-
--- a point of the halves of R and of the box
-pub from_boxed : (R : Area) (z : Point) → IsInHalves (boxed R) z → IsInClosed R z
-from_boxed R z i = record {
-  is_point = deep _ i.deep;
-  halves = recursion_from_All (λ h. pos 0 ≤ℤ value h.form z) R (boxed_halves (λ h. pos 0 ≤ℤ value h z) R i.each);
-}
-  where
-    deep : (a : ℤ) → pos 0 <ℤ a → pos 1 ≤ℤ a
-    deep a h = omega (arith, linear)
+use Rattle.srs_cell.proofs.Reaching.{reaches}
+use Rattle.srs_cell.proofs.Extremes.{low_bound, attained_core}
 
 module _ (R : Area) (cs : List Point) (sample : Point) (cell : IsCell R cs sample) (f : LinearForm) (c : Point) (corner : IsLeastCorner f cs c) where
   -- how far a form is above its value at c
@@ -41,9 +32,6 @@ module _ (R : Area) (cs : List Point) (sample : Point) (cell : IsCell R cs sampl
       value-combine c.d (neg_ℤ (value f c)) f depth z ∙ ap (λ x. c.d *ℤ value f z +ℤ neg_ℤ (value f c) *ℤ x) (value-depth z)
       ∙ ring (c.d ∷ value f z ∷ value f c ∷ z.d ∷ []) (v 0 ⊗ v 1 ⊕ minus (v 2) ⊗ v 3) (v 0 ⊗ v 1 ⊖ v 2 ⊗ v 3) tt
 
-  corner_in : IsInHalves (boxed R) c
-  corner_in = All-contains (IsInHalves (boxed R)) cs c cell.corners.hull.inside corner.among
-
   pub infimum : IsInfimum R f (value f c) c.d
   infimum = record {
     bound = λ z z_in.
@@ -51,19 +39,12 @@ module _ (R : Area) (cs : List Point) (sample : Point) (cell : IsCell R cs sampl
         (All-weaker (λ e. (value f c *ℤ e.d) ≤ℤ (value f e *ℤ c.d)) (λ e. (value f c *ℤ e.d) ≤ℤ (c.d *ℤ value f e)) (λ e h. turned _ _ _ (mul_comm (value f e) c.d) h) cs corner.least)
         z (in_boxed R z z_in (cell.near z z_in));
     greatest = λ n e he lt.
-        let g = combine n depth (neg_ℤ e) f in
-        let w = near g c sample (up_at n e lt) in (
-          mix w.0 c (pos 1) sample,
-          mix_in R w.0 (pos 1) c sample w.1 one (from_boxed R c corner_in) cell.inside,
-          under _ _ _ (value-g n e (mix w.0 c (pos 1) sample)) w.2,
-        );
+        let w = reaches R cs sample cell c corner.among (combine n depth (neg_ℤ e) f) (up_at n e lt) in
+        (w.0, w.1, under _ _ _ (value-g n e w.0) w.2);
   }
     where
       turned : (a b c : ℤ) → b ≡ c → a ≤ℤ b → a ≤ℤ c
       turned a b c e h = omega (arith, linear)
-
-      one : pos 0 <ℤ pos 1
-      one = omega (arith, linear)
 
       value-g : (n e : ℤ) (z : Point) → value (combine n depth (neg_ℤ e) f) z ≡ n *ℤ z.d -ℤ e *ℤ value f z
       value-g n e z =
@@ -133,6 +114,31 @@ module _ (R : Area) (cs : List Point) (sample : Point) (cell : IsCell R cs sampl
       attained = λ t. sum_takes (inside t);
       all_attained = λ t. all (takes_sum t);
     })
+
+    -- the same of the whole number k that the form is at c
+    pub takes_whole : (k : ℤ) (b : Bool) → value f c ≡ k *ℤ c.d → (IsTrue b → All (λ h. IsInHalf h total) R) → (All (λ h. IsInHalf h total) R → IsTrue b) → IsTrue b ↔ Takes R f k (pos 1)
+    takes_whole k b e inside all = (λ t. forth (sum_takes (inside t)), λ t. all (takes_sum (back t)))
+      where
+        forth : Takes R f (value f c) c.d → Takes R f k (pos 1)
+        forth t =
+            let r = ring (c.d ∷ value f t.0 ∷ k ∷ t.0.d ∷ []) (v 0 ⊗ (v 1 ⊖ v 2 ⊗ v 3)) (v 0 ⊗ v 1 ⊖ (v 2 ⊗ v 0) ⊗ v 3) tt in
+            let deep_c = deep c.d (sized_among cs c cell.corners.sized corner.among).is_point in
+            let z = zero_from c.d (value f t.0 -ℤ k *ℤ t.0.d) deep_c (r ∙ off _ _ (t.2 ∙ ap (λ x. x *ℤ t.0.d) e)) in
+            (t.0, t.1, mul_one (value f t.0) ∙ level _ _ z)
+          where
+            deep : (a : ℤ) → pos 1 ≤ℤ a → pos 0 <ℤ a
+            deep a h = omega (arith, linear)
+
+            level : (a b : ℤ) → a -ℤ b ≡ pos 0 → a ≡ b
+            level a b h = omega (arith, linear)
+
+            off : (a b : ℤ) → a ≡ b → a -ℤ b ≡ pos 0
+            off a b h = omega (arith, linear)
+
+        back : Takes R f k (pos 1) → Takes R f (value f c) c.d
+        back t =
+            let r = ring (c.d ∷ k ∷ t.0.d ∷ []) (v 0 ⊗ (v 1 ⊗ v 2)) ((v 1 ⊗ v 0) ⊗ v 2) tt in
+            (t.0, t.1, ap (λ x. c.d *ℤ x) (sym (mul_one (value f t.0)) ∙ t.2) ∙ r ∙ ap (λ x. x *ℤ t.0.d) (sym e))
 
 -- ---- the supremum by the infimum of the opposite form
 neg_mul : (a b : ℤ) → neg_ℤ a *ℤ b ≡ neg_ℤ (a *ℤ b)

@@ -152,3 +152,6 @@ sized_among cs c sized among = All-contains (IsPointWithin (2 ^ 77)) cs c sized 
 
 pub depth_fits : (d : ℤ) (c : Point) → d ≡ c.d → IsPointWithin (2 ^ 77) c → FitsSigned w128 d
 depth_fits d c e sized = rw e (small_fits w128 c.d (2 ^ 77) sized.d_range (lit< tt))
+
+pub not_up_to : (a b : ℤ) → (a ≤ℤ b → ⊥) → b <ℤ a
+not_up_to a b n = by_lt_z b a (λ h. h) (λ h. absurd (n h))

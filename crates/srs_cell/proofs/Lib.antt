@@ -10,6 +10,9 @@ pub mod Areas
 pub mod Closed
 pub mod Divided
 pub mod Least
+pub mod Reaching
 pub mod Infima
 pub mod LeastFloors
 pub mod OneSided
+pub mod Lessening
+pub mod FloorsBelow

@@ -1,5 +1,6 @@
 -- What the bounds of a form tell of the side on which a region is.
-use Rattle.std.proofs.Common.{◌≡◌, ℤ, pos, ◌*ℤ◌, neg_ℤ, ◌≤ℤ◌, ◌<ℤ◌, [], ◌∷◌, Bool, true, false, not, MatchBool, refl, ap, sym, ◌∙◌, arith}
+use Rattle.std.proofs.Common.{◌≡◌, ℤ, pos, ◌*ℤ◌, neg_ℤ, ◌≤ℤ◌, ◌<ℤ◌, [], ◌∷◌, Bool, true, false, not, IsTrue, MatchBool, refl, ap, sym, ◌∙◌, arith}
+use Rattle.std.specs.Prelude.{◌↔◌}
 use Rattle.std.specs.Int.Signed.{le_z, lt_z}
 use Rattle.std.proofs.lemmas.Int.{ints, by_lt_z}
 use Rattle.std.proofs.lemmas.Bool.{false≢true}
@@ -113,3 +114,17 @@ above_from_closed R f b high zero on =
 
     level : (a : ℤ) → a ≡ pos 0 → pos 0 ≤ℤ a
     level a e = omega (arith, linear)
+
+-- a test of two numbers that are known by other names
+pub le_test : (a b c d : ℤ) → a ≡ c → b ≡ d → IsTrue (le_z a b) ↔ (c ≤ℤ d)
+le_test a b c d e f = (λ t. read t, λ h. test h)
+  where
+    read : IsTrue (le_z a b) → c ≤ℤ d
+    read t = omega (arith, ints)
+
+    test : c ≤ℤ d → IsTrue (le_z a b)
+    test h = by (le_z a b) refl
+      where
+        by : (t : Bool) → le_z a b ≡ t → IsTrue t
+        by true g = refl
+        by false g = absurd (omega (arith, ints))

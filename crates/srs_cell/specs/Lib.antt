@@ -5,3 +5,4 @@ pub mod Bounds
 pub mod Moves
 pub mod Sides
 pub mod Parts
+pub mod Floors

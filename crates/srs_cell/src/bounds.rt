@@ -1,8 +1,9 @@
 // The least and the greatest value of a form over a cell.
-ghost use Rattle.std.specs.Prelude.{◌≡◌, ◌≤◌, ◌^◌, ◌↔◌, IsTrue, All, length};
+ghost use Rattle.std.specs.Prelude.{◌≡◌, ◌≤◌, ◌^◌, ◌↔◌, IsTrue, All, Contains, MatchOption, length, pos, ◌*ℤ◌, ◌≤ℤ◌, ◌<ℤ◌};
 ghost use Rattle.srs_num.specs.Points.{Point, value, IsNear, IsWithin, IsPointWithin};
 ghost use Rattle.srs_plane.specs.Regions.{IsIn};
-ghost use Rattle.srs_cell.specs.Bounds.{IsLow, IsHigh, IsBoundSized, IsLower, IsLeastCorner, IsLeastSum};
+ghost use Rattle.srs_cell.specs.Bounds.{IsLow, IsHigh, IsBoundSized, IsLower, IsLeastCorner, IsLeastSum, Takes};
+ghost use Rattle.srs_cell.specs.Floors.{IsLeastFloor};
 
 use crate::Cell;
 use crate::cells::is_inside;
@@ -48,6 +49,53 @@ impl Cell {
             attained: low.attained,
         }
     }
+}
+
+impl Cell {
+    // Whether a point of the cell takes the whole number that is the form's least floor there.
+    pub(crate) fn takes(&self, form: &Form, least: i64) -> bool
+        requires least { IsLeastFloor self.now form.now least }
+        requires sized { IsWithin (2 ^ 40) least }
+        ensures { IsTrue result ↔ Takes self.now form.now least (pos 1) }
+    {
+        let corners = self.corners();
+        let Some(first) = first_taking(form, corners, least) else {
+            return false;
+        };
+        let sum = least_sum(form, corners, &first);
+        is_inside(self.region(), &sum)
+    }
+}
+
+// The denominator of a corner.
+pub(crate) fn depth(corner: &Corner) -> i128
+    ensures { result ≡ corner.now.d }
+{
+    let (_, _, d) = corner.parts();
+    d
+}
+
+// Whether the form isn't above the whole number at the corner.
+fn is_up_to(form: &Form, corner: &Corner, most: i64) -> bool
+    requires corner { IsPointWithin (2 ^ 77) corner.now }
+    requires most { IsWithin (2 ^ 40) most }
+    ensures { IsTrue result ↔ (value form.now corner.now ≤ℤ (most *ℤ corner.now.d)) }
+{
+    value_at(form, corner) <= most as i128 * depth(corner)
+}
+
+// The first of the corners at which the form isn't above the whole number.
+fn first_taking(form: &Form, corners: &[Corner], most: i64) -> Option<Corner>
+    requires sized { All (IsPointWithin (2 ^ 77)) corners.now }
+    requires most { IsWithin (2 ^ 40) most }
+    ensures { MatchOption result (All (λ c. (most *ℤ c.d) <ℤ value form.now c) corners.now) (λ c. Contains corners.now c × (value form.now c ≤ℤ (most *ℤ c.d))) }
+{
+    for corner in corners {
+        if is_up_to(form, corner, most) {
+            return Some(*corner);
+        }
+    }
+    None
 }
 
 // Whether the form is less at the corner than at the other one.

@@ -2,10 +2,13 @@
 ghost use Rattle.std.specs.Prelude.{◌≡◌, ◌<◌, ◌↔◌, [], ◌∷◌, ◌++◌, length, IsTrue, IfOk, IsSome, MatchOption, All};
 ghost use Rattle.srs_plane.specs.Regions.{IsIn, IsInHalf, HasPoint};
 ghost use Rattle.srs_num.specs.Points.{Point};
+ghost use Rattle.srs_map.specs.Step.{IsNarrow};
 ghost use Rattle.srs_cell.specs.Corners.{AreCorners, IsCell};
+ghost use Rattle.srs_cell.specs.Floors.{form_of, AreLeastFloors};
 
-use crate::corners::{copied, corners_of, corners_with};
-use srs_num::{Corner, NoMemory, sum};
+use crate::corners::{corners_of, corners_with};
+use crate::floors::{CornerList, Floors};
+use srs_num::{Corner, NoMemory, V2, sum};
 use srs_plane::{Half, Kind, Region};
 use std::alloc::Global;
 use std::marker::Model;
@@ -14,7 +17,7 @@ use std::marker::Model;
 #[derive(Drop)]
 pub struct Cell {
     region: Region,
-    corners: Vec<Corner>,
+    corners: CornerList,
     sample: Corner,
 }
 
@@ -27,7 +30,7 @@ impl Model for Cell {
 
     ghost view = { λ s. s.region };
 
-    ghost invariant = { λ s. IsCell s.region s.corners.items s.sample };
+    ghost invariant = { λ s. IsCell s.region s.corners s.sample };
 }
 
 impl Cell {
@@ -63,7 +66,7 @@ impl Cell {
     {
         Ok(Cell {
             region: self.region.copy(alloc)?,
-            corners: copied(alloc, &self.corners)?,
+            corners: self.corners.copy(alloc)?,
             sample: self.sample,
         })
     }
@@ -74,7 +77,8 @@ impl Cell {
         ensures part { IfOk result (λ found. MatchOption found (HasPoint (self.now ++ half ∷ []) → ⊥) (λ cell. cell ≡ self.now ++ half ∷ [])) }
         ensures point { IfOk result (λ found. IsSome found → HasPoint (self.now ++ half ∷ [])) }
     {
-        let Some(corners) = corners_with(alloc, &self.region, &self.corners, &half)? else {
+        let Some(corners) = corners_with(alloc, &self.region, self.corners.as_slice(), &half)?
+        else {
             return Ok(None);
         };
         let region = self.region.with(alloc, half)?;
@@ -85,7 +89,15 @@ impl Cell {
     pub(crate) fn corners(&self) -> &[Corner]
         ensures { (sample : Point) × IsCell self.now result.now sample }
     {
-        &self.corners
+        self.corners.as_slice()
+    }
+
+    // The least floors of the value of a pair, and of the value negated, at the cell's points.
+    pub(crate) fn floors(&self, w: V2) -> Floors
+        requires { IsNarrow w }
+        ensures { AreLeastFloors self.now (form_of w) result }
+    {
+        self.corners.floors(w)
     }
 }
 
@@ -105,7 +117,7 @@ fn inhabited(region: Region, corners: Vec<Corner>) -> Option<Cell>
     Some(Cell {
         region,
         sample,
-        corners,
+        corners: CornerList::new(corners),
     })
 }
 

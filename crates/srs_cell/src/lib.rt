@@ -6,6 +6,7 @@ mod cells;
 mod corners;
 mod divisions;
 mod ends;
+mod floors;
 mod moves;
 mod sharing;
 mod sides;

@@ -1,5 +1,5 @@
-//! Worked examples of the library calls: each call once with ample memory, its answer compared with a value from
-//! outside. A table a subject.
+//! Worked examples of points, polygons, orbits and cells: each call once with ample memory, its answer compared with a
+//! value from outside. A table a subject.
 #![tactic(auto)]
 
 #[cfg(test)]
@@ -11,10 +11,4 @@ mod cuts;
 #[cfg(test)]
 mod orbits;
 #[cfg(test)]
-mod outcomes;
-#[cfg(test)]
 mod polygons;
-#[cfg(test)]
-mod refinement;
-#[cfg(test)]
-mod versions;

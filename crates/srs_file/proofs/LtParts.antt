@@ -1,5 +1,5 @@
 -- The places of the Lt parts, found by one walk over the events of a whole tree.
-use Rattle.std.proofs.Common.{◌≡◌, ◌≢◌, ◌<◌, ◌≤◌, ◌+◌, ◌++◌, ◌⊎◌, ℕ, zero, suc, List, [], ◌∷◌, length, map, drop, get_or, set, Some, None, slice_get, refl, sym, ap, ◌∙◌, inl, inr, arith, length-append, subst, get_or-set_other, get_or-set_same}
+use Rattle.std.proofs.Common.{◌≡◌, ◌<◌, ◌+◌, ◌++◌, ◌⊎◌, ℕ, zero, suc, List, [], ◌∷◌, length, map, drop, get_or, set, Some, slice_get, refl, sym, ap, ◌∙◌, inl, inr, arith, length-append, subst, get_or-set_other, get_or-set_same}
 use Rattle.std.proofs.lemmas.List.{same_from_push, drop_more, drop_all, get_or_append_left, length-set}
 use Rattle.std.proofs.lemmas.Bool.Decides.{eqb_tells}
 use Rattle.std.proofs.lemmas.Option.{same_Some, get_or_from_slice_get, slice_get_within}
@@ -107,6 +107,7 @@ parts_cut H places waiting_cuts after more i e h s at cut grown pushed = record 
       let l = taken H s.waiting s.tops i e at s.waits s.listed in
       let m : ListsTrees ((e.path ++ Ge ∷ []) ∷ (e.path ++ Lt ∷ []) ∷ map (lt_path H) s.tops) (drop (i + 1) H) = rw cut at l in
       rw (lt_path_is H i e at) m
+
   settled : (k : ℕ) (f : Entry) (g : LinearForm) → slice_get H k ≡ Some f → f.outcome ≡ Cut g → k < i + 1 → Holds (i ∷ s.tops) k ⊎ StandsAt H (f.path ++ Lt ∷ []) (get_or after k 0)
   settled k f g there is lt = elim (eqb_tells k i) [
     | inl same ↦ inl (inl same.1)
@@ -151,6 +152,7 @@ parts_last H places waiting_cuts after i e s at leaf grown empty = record {
   empty_stack : (tops : List ℕ) → stacked tops ≡ [] → tops ≡ []
   empty_stack [] q = refl
   empty_stack (c ∷ cs) q = absurd (omega (arith, ap length q, length-append (stacked cs) (c ∷ [])))
+
   none : s.tops ≡ []
   none = empty_stack s.tops (sym s.open_is ∙ empty)
 
@@ -159,54 +161,59 @@ pub parts_leaf : (H : History) (places waiting_cuts after more : List ℕ) (i cu
     → waiting_cuts ≡ more ++ cut ∷ [] → after ≡ set (places ++ 0 ∷ []) cut (i + 1) → PartsSoFar H after more (i + 1)
 parts_leaf H places waiting_cuts after more i cut e s at leaf popped grown = from s.tops refl
   where
-  from : (tops : List ℕ) → s.tops ≡ tops → PartsSoFar H after more (i + 1)
-  from [] q = absurd (omega (arith, ap length s.open_is, ap (λ x. length (stacked x)) q, ap length popped, length-append more (cut ∷ [])))
-  from (c ∷ cs) q = record {
-    tops = cs;
-    waiting = lt_path H cut ∷ map (lt_path H) cs;
-    open_is = sym stack.0;
-    count = omega (arith, ap length grown, length-set (places ++ 0 ∷ []) cut (i + 1), s.count, length-append places (0 ∷ []));
-    below = below_more i cs below.1;
-    waits = inr (lt_path H cut, refl);
-    listed = listed;
-    settled = λ k f g there lt is. settled k f g there is lt;
-  } where
-    stack : (stacked cs ≡ more) × (c ≡ cut)
-    stack = same_from_push (stacked cs) more c cut (sym (ap stacked q) ∙ sym s.open_is ∙ popped)
-    below : AreBelow i (c ∷ cs)
-    below = rw q at s.below
-    listed : ListsTrees (lt_path H cut ∷ map (lt_path H) cs) (drop (i + 1) H)
-    listed = let l = after_leaf H places waiting_cuts i e s at leaf in let m : ListsTrees (map (lt_path H) (c ∷ cs)) (drop (i + 1) H) = rw q at l in rw (← stack.1) m
-    begins : (rest : History) → drop (i + 1) H ≡ rest → ListsTrees (lt_path H cut ∷ map (lt_path H) cs) rest → StandsAt H (lt_path H cut) (i + 1)
-    begins [] d l = absurd l
-    begins (f ∷ rest) d l = record { event = f; there = head_at H (i + 1) f rest d; path_is = l.0 }
-    within : cut < length (places ++ 0 ∷ [])
-    within = omega (arith, below.0, stack.1, s.count, length-append places (0 ∷ []))
-    settled : (k : ℕ) (f : Entry) (g : LinearForm) → slice_get H k ≡ Some f → f.outcome ≡ Cut g → k < i + 1 → Holds cs k ⊎ StandsAt H (f.path ++ Lt ∷ []) (get_or after k 0)
-    settled k f g there is lt = elim (eqb_tells k cut) [
-      | inl same ↦
-          let place : get_or after k 0 ≡ i + 1 = rw (grown, same.1) (get_or-set_same (places ++ 0 ∷ []) cut (i + 1) 0 within) in
-          let path : lt_path H cut ≡ f.path ++ Lt ∷ [] = lt_path_is H cut f (rw same.1 at there) in
-          inr (rw (place, ← path) (begins (drop (i + 1) H) refl listed))
-      | inr other ↦ elim (eqb_tells k i) [
-        | inl same ↦ absurd (leaf g (ap (λ (x : Entry). x.outcome) (same_Some e f (sym at ∙ rw same.1 at there)) ∙ is))
-        | inr later ↦
-            let earlier : k < i = omega (arith, later.1) in
-            let place : get_or after k 0 ≡ get_or (places ++ 0 ∷ []) k 0 = rw grown (get_or-set_other (places ++ 0 ∷ []) cut k (i + 1) 0 other.1) in
-            elim (s.settled k f g there earlier is) [
-              | inl waits ↦ let w : Holds (c ∷ cs) k = rw q at waits in elim w [ inl here ↦ absurd (other.1 (here ∙ stack.1)) | inr on ↦ inl on ]
-              | inr known ↦ inr (rw place (kept H places i (f.path ++ Lt ∷ []) k s.count earlier known))
-            ]
+    from : (tops : List ℕ) → s.tops ≡ tops → PartsSoFar H after more (i + 1)
+    from [] q = absurd (omega (arith, ap length s.open_is, ap (λ x. length (stacked x)) q, ap length popped, length-append more (cut ∷ [])))
+    from (c ∷ cs) q = record {
+      tops = cs;
+      waiting = lt_path H cut ∷ map (lt_path H) cs;
+      open_is = sym stack.0;
+      count = omega (arith, ap length grown, length-set (places ++ 0 ∷ []) cut (i + 1), s.count, length-append places (0 ∷ []));
+      below = below_more i cs below.1;
+      waits = inr (lt_path H cut, refl);
+      listed = listed;
+      settled = λ k f g there lt is. settled k f g there is lt;
+    } where
+      stack : (stacked cs ≡ more) × (c ≡ cut)
+      stack = same_from_push (stacked cs) more c cut (sym (ap stacked q) ∙ sym s.open_is ∙ popped)
+
+      below : AreBelow i (c ∷ cs)
+      below = rw q at s.below
+
+      listed : ListsTrees (lt_path H cut ∷ map (lt_path H) cs) (drop (i + 1) H)
+      listed = let l = after_leaf H places waiting_cuts i e s at leaf in let m : ListsTrees (map (lt_path H) (c ∷ cs)) (drop (i + 1) H) = rw q at l in rw (← stack.1) m
+
+      begins : (rest : History) → drop (i + 1) H ≡ rest → ListsTrees (lt_path H cut ∷ map (lt_path H) cs) rest → StandsAt H (lt_path H cut) (i + 1)
+      begins [] d l = absurd l
+      begins (f ∷ rest) d l = record { event = f; there = head_at H (i + 1) f rest d; path_is = l.0 }
+
+      within : cut < length (places ++ 0 ∷ [])
+      within = omega (arith, below.0, stack.1, s.count, length-append places (0 ∷ []))
+
+      settled : (k : ℕ) (f : Entry) (g : LinearForm) → slice_get H k ≡ Some f → f.outcome ≡ Cut g → k < i + 1 → Holds cs k ⊎ StandsAt H (f.path ++ Lt ∷ []) (get_or after k 0)
+      settled k f g there is lt = elim (eqb_tells k cut) [
+        | inl same ↦
+            let place : get_or after k 0 ≡ i + 1 = rw (grown, same.1) (get_or-set_same (places ++ 0 ∷ []) cut (i + 1) 0 within) in
+            let path : lt_path H cut ≡ f.path ++ Lt ∷ [] = lt_path_is H cut f (rw same.1 at there) in
+            inr (rw (place, ← path) (begins (drop (i + 1) H) refl listed))
+        | inr other ↦ elim (eqb_tells k i) [
+          | inl same ↦ absurd (leaf g (ap (λ (x : Entry). x.outcome) (same_Some e f (sym at ∙ rw same.1 at there)) ∙ is))
+          | inr later ↦
+              let earlier : k < i = omega (arith, later.1) in
+              let place : get_or after k 0 ≡ get_or (places ++ 0 ∷ []) k 0 = rw grown (get_or-set_other (places ++ 0 ∷ []) cut k (i + 1) 0 other.1) in
+              elim (s.settled k f g there earlier is) [
+                | inl waits ↦ let w : Holds (c ∷ cs) k = rw q at waits in elim w [ inl here ↦ absurd (other.1 (here ∙ stack.1)) | inr on ↦ inl on ]
+                | inr known ↦ inr (rw place (kept H places i (f.path ++ Lt ∷ []) k s.count earlier known))
+              ]
+        ]
       ]
-    ]
 
 -- the cut on the top of the stack stands before the event at place i
 pub top_below : (H : History) (places waiting_cuts more : List ℕ) (i cut : ℕ) → PartsSoFar H places waiting_cuts i → waiting_cuts ≡ more ++ cut ∷ [] → cut < i
 top_below H places waiting_cuts more i cut s popped = from s.tops s.open_is s.below
   where
-  from : (tops : List ℕ) → waiting_cuts ≡ stacked tops → AreBelow i tops → cut < i
-  from [] o b = absurd (omega (arith, ap length o, ap length popped, length-append more (cut ∷ [])))
-  from (c ∷ cs) o b = let same = same_from_push (stacked cs) more c cut (sym o ∙ popped) in omega (arith, b.0, same.1)
+    from : (tops : List ℕ) → waiting_cuts ≡ stacked tops → AreBelow i tops → cut < i
+    from [] o b = absurd (omega (arith, ap length o, ap length popped, length-append more (cut ∷ [])))
+    from (c ∷ cs) o b = let same = same_from_push (stacked cs) more c cut (sym o ∙ popped) in omega (arith, b.0, same.1)
 
 pub parts_end : (H : History) (places waiting_cuts : List ℕ) (i : ℕ) → PartsSoFar H places waiting_cuts i → i ≡ length H → ListsLtParts H places
 parts_end H places waiting_cuts i s over = record {
@@ -218,10 +225,12 @@ parts_end H places waiting_cuts i s over = record {
 } where
   gone : drop i H ≡ []
   gone = drop_all i H (omega arith)
+
   none : s.tops ≡ []
   none = elim s.waits [
     | inl w ↦ w.1
     | inr w ↦ let l : ListsTrees (w.0 ∷ map (lt_path H) s.tops) [] = rw (w.1, gone) at s.listed in absurd l
   ]
+
   no_waits : (k : ℕ) → Holds s.tops k → ⊥
   no_waits k w = let v : Holds [] k = rw none at w in v

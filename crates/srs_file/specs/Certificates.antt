@@ -3,7 +3,7 @@ use Rattle.std.specs.Prelude.{◌≡◌, ℕ, ◌+◌, ◌<◌, ◌==◌, List, 
 use Rattle.std.specs.List.{flat_map}
 use Rattle.srs_num.specs.Points.{LinearForm}
 use Rattle.srs_plane.specs.declared.polygons.Vertex.{Vertex}
-use Rattle.srs_plane.specs.Polygons.{IsPolygon}
+use Rattle.srs_plane.specs.Polygons.{IsPolygon, region_of}
 use Rattle.srs_path.specs.declared.paths.Side.{Side}
 use Rattle.srs_path.specs.declared.paths.Side.TheVariants.{Lt}
 use Rattle.srs_path.specs.declared.outcomes.Outcome.{Outcome}
@@ -11,6 +11,8 @@ use Rattle.srs_path.specs.declared.outcomes.Outcome.TheVariants.{Cut}
 use Rattle.srs_path.specs.Views.{Budget, Entry}
 use Rattle.srs_tree.specs.Tree.{History}
 use Rattle.srs_tree.specs.WholeTrees.{ListsWholeTree, IsWithin}
+use Rattle.srs_tree.specs.Snapshots.{Snapshot, StandsFor}
+use Rattle.srs_tree.specs.Preorder.{preorder_of}
 use Rattle.srs_file.specs.Texts.{head_text, outcome_text, certificate_text}
 
 -- what a certificate is seen as: the vertices of its polygon, its limits, and the events of its tree in preorder
@@ -25,6 +27,12 @@ outcomes_of H = map (λ e. e.outcome) H
 -- the one text of a certificate
 abbrev pub cert_text : CertView → List ℕ
 cert_text c = certificate_text c.vertices c.limits (outcomes_of c.events)
+
+-- the text is the certificate of the polygon with the events of H, whose order it doesn't show: they stand in preorder
+pub record IsTextOf (vertices : List Vertex) (limits : Budget) (H : History) (text : List ℕ) : Type 0 where
+  pub snapshot : Snapshot
+  pub stands : StandsFor (region_of vertices) H snapshot
+  pub written : text ≡ cert_text (record { vertices = vertices; limits = limits; events = preorder_of snapshot })
 
 -- a polygon, and the events of a whole tree within the limits
 pub record IsCertificate (c : CertView) : Type 0 where

@@ -38,7 +38,12 @@ impl Model for Cert {
 impl Cert {
     /// The certificate of a polygon's vertices, limits, and the events of a whole tree within them in preorder. An `Err` is
     /// want of memory.
-    pub fn new(alloc: Global, vertices: &[Vertex], limits: Limits, events: Journal) -> Result<Cert, NoMemory>
+    pub fn new(
+        alloc: Global,
+        vertices: &[Vertex],
+        limits: Limits,
+        events: Journal,
+    ) -> Result<Cert, NoMemory>
         requires polygon { IsPolygon vertices.now }
         requires tree { ListsWholeTree events }
         requires within { IsWithin limits events }
@@ -99,7 +104,12 @@ fn copied(alloc: Global, vertices: &[Vertex]) -> Result<Vertices, NoMemory>
 }
 
 // The line of each node.
-fn lines_of(alloc: Global, vertices: &[Vertex], limits: &Limits, events: &Journal) -> Result<Vec<u32>, NoMemory>
+fn lines_of(
+    alloc: Global,
+    vertices: &[Vertex],
+    limits: &Limits,
+    events: &Journal,
+) -> Result<Vec<u32>, NoMemory>
     requires counted { IsCounted vertices.now }
     requires within { IsWithin limits.now events.now }
     ensures { IfOk result (λ lines. ListsLines (record { vertices = vertices.now; limits = limits.now; events = events.now }) lines.items) }

@@ -1,15 +1,11 @@
 // The line of a vertex.
-ghost use Rattle.std.specs.Prelude.{◌≡◌, ◌↔◌, [], ◌∷◌, IsTrue, IfOk, IfErr, IfSome, IfNone};
+ghost use Rattle.std.specs.Prelude.{◌≡◌, [], ◌∷◌, IfOk, IfErr, IfSome, IfNone};
 ghost use Rattle.srs_plane.specs.declared.halves.Kind.{Kind};
-ghost use Rattle.srs_plane.specs.Placed.{IsPlaced};
-ghost use Rattle.srs_plane.specs.Polygons.{IsShallow, point_of};
-ghost use Rattle.srs_num.specs.Points.{IsNear};
 ghost use Rattle.srs_line.specs.Fields.{HasWord, Says, IsFieldSlip};
 ghost use Rattle.srs_file.specs.Texts.{kind_word};
 ghost use Rattle.srs_file.specs.Ring.{SaysVertex, IsVertexSlip};
 
 use srs_line::{Slip, has_word, three};
-use srs_num::Pt;
 use srs_plane::{Kind, Vertex};
 
 // Reads the line of a vertex. It takes no memory.
@@ -24,7 +20,7 @@ pub(crate) fn vertex(line: &[u8]) -> Result<Vertex, Slip>
         Ok(vertex) => vertex,
         Err(slip) => return Err(slip),
     };
-    if !is_placed(&vertex) {
+    if !vertex.is_placed() {
         return Err(Slip::Range);
     }
     Ok(vertex)
@@ -63,31 +59,5 @@ pub fn word_of(kind: Kind) -> &'static [u8]
     match kind {
         Kind::Ge => b"ge",
         Kind::Gt => b"gt",
-    }
-}
-
-// Whether the denominator is 1 to 65536 and both coordinates are at most 4 in magnitude.
-fn is_placed(v: &Vertex) -> bool
-    ensures { IsTrue result ↔ IsPlaced v.now }
-{
-    if !is_shallow(v) {
-        return false;
-    }
-    is_near(v)
-}
-
-fn is_shallow(v: &Vertex) -> bool
-    ensures { IsTrue result ↔ IsShallow v.now }
-{
-    1 <= v.d && v.d <= 65536
-}
-
-fn is_near(v: &Vertex) -> bool
-    requires { IsShallow v.now }
-    ensures { IsTrue result ↔ IsNear (point_of v.now) }
-{
-    match Pt::new(v.p, v.q, v.d) {
-        Some(r) => r.near(),
-        None => false,
     }
 }

@@ -53,7 +53,7 @@ makes_list ps zs m =
       some = omega (arith, size, m.some);
       short = omega (arith, size, m.short);
       ascending = λ i j d lt l. let here : j < length ps = omega arith in let there : i < length ps = omega arith in
-        rw (at-ranked ps zs i d m.same there, at-ranked ps zs j d m.same here) (m.ascending i j d.0 lt here);
+          rw (at-ranked ps zs i d m.same there, at-ranked ps zs j d m.same here) (m.ascending i j d.0 lt here);
       each = λ k d l. let here : k < length ps = omega arith in
-        rw (at-ranked ps zs k d m.same here) (m.narrow k d.0 here, small_rank (get_or zs k (pos 0)) (m.within k (pos 0) (omega (arith, m.same))));
+          rw (at-ranked ps zs k d m.same here) (m.narrow k d.0 here, small_rank (get_or zs k (pos 0)) (m.within k (pos 0) (omega (arith, m.same))));
     }

@@ -35,7 +35,11 @@ fn put_nodes(out: &mut Bytes, events: &Journal) -> Result<(), NoMemory>
 }
 
 // All that stands before the tree.
-pub(crate) fn put_head(out: &mut Bytes, vertices: &[Vertex], limits: &Limits) -> Result<(), NoMemory>
+pub(crate) fn put_head(
+    out: &mut Bytes,
+    vertices: &[Vertex],
+    limits: &Limits,
+) -> Result<(), NoMemory>
     ensures ok { OnOk result (out.new ≡ out.old ++ head_text vertices.now limits.now) }
     ensures err { OnErr result (StopsIn out.old (head_text vertices.now limits.now) out.new) }
 {

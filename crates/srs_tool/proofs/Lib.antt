@@ -1,2 +1,5 @@
 pub mod WordLemmas
 pub mod Telling
+pub mod Completing
+pub mod RoundSteps
+pub mod Certifying

@@ -6,7 +6,7 @@ use Rattle.srs_text.proofs.Spellings.{number_once}
 use Rattle.srs_path.specs.Views.{Budget, IsBudget}
 use Rattle.srs_tool.specs.Words.{SpellsLimits}
 
-same_count : (text : List ℕ) (m n : ℕ) → IsNumber text (pos m) → IsNumber text (pos n) → m ≡ n
+pub same_count : (text : List ℕ) (m n : ℕ) → IsNumber text (pos m) → IsNumber text (pos n) → m ≡ n
 same_count text m n h k = let e : pos m ≡ pos n = number_once text (pos m) (pos n) h k in cc
 
 -- where the three words spell numbers, what they spell as limits is those numbers

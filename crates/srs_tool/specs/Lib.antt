@@ -2,3 +2,4 @@ pub mod Words
 pub mod Output
 pub mod Ends
 pub mod Exit
+pub mod Refined

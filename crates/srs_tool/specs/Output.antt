@@ -1,54 +1,73 @@
--- What the program owes for a text that was read to its end: a status, and what it writes.
-use Rattle.std.specs.Prelude.{◌≡◌, ℕ, List, [], ◌∷◌, Some, codes}
+-- What the program owes for an input that was read to its end: a status, and what it writes.
+use Rattle.std.specs.Prelude.{◌≡◌, ℕ, List, [], ◌∷◌, ◌++◌, Contains, pos, codes}
+use Rattle.std.specs.Fmt.{signed_decimal}
 use Rattle.srs_plane.specs.declared.polygons.Vertex.{Vertex}
 use Rattle.srs_plane.specs.Polygons.{region_of}
-use Rattle.srs_path.specs.Views.{Budget}
-use Rattle.srs_path.specs.declared.outcomes.Outcome.{Outcome}
-use Rattle.srs_path.specs.declared.limits.Last.TheVariants.{Depth as AtDepth}
-use Rattle.srs_path.specs.Refinement.{Refines}
+use Rattle.srs_plane.specs.Regions.{Area}
+use Rattle.srs_path.specs.Views.{Budget, Entry}
 use Rattle.srs_path.specs.Soundness.{IsSound}
-use Rattle.srs_file.specs.Texts.{certificate_text}
+use Rattle.srs_tree.specs.Tree.{History, outcome_at, region_at, IsPartition}
+use Rattle.srs_tree.specs.Rounds.{IsPlan}
+use Rattle.srs_line.specs.declared.slip.Slip.{Slip}
+use Rattle.srs_line.specs.Refusal.{slip_word}
+use Rattle.srs_file.specs.Certificates.{IsTextOf}
 use Rattle.srs_file.specs.Grammar.{SpellsPolygon}
+use Rattle.srs_file.specs.PolygonReading.{FirstSlip}
+use Rattle.srs_tool.specs.declared.words.Command.{Command}
+use Rattle.srs_tool.specs.declared.words.Command.TheVariants.{Certify}
 use Rattle.srs_tool.specs.declared.status.Status.{Status}
 use Rattle.srs_tool.specs.declared.status.Status.TheVariants.{Done, Bad, Usage, NoMemory, ReadFault, WriteFault, Refused, TooLong}
 
--- the lines that refusals print
-abbrev pub refused_input : List ℕ
-refused_input = codes "refused input\n"
+-- the line of a refusal: the line of the first slip, and the slip
+abbrev pub refusal_line : ℕ → Slip → List ℕ
+refusal_line line slip = codes "refused line " ++ signed_decimal (pos line) ++ codes " " ++ slip_word slip ++ codes "\n"
 
+-- the line that refuses an input that is too long
 abbrev pub refused_long : List ℕ
 refused_long = codes "refused long\n"
 
--- the text is that of no polygon
-abbrev pub SpellsNoPolygon : List ℕ → Type 0
-SpellsNoPolygon text = (vs : List Vertex) → SpellsPolygon text vs → ⊥
+-- H is the plan of the region. Its leaves partition the region, and what each outcome claims holds of its cell: inside,
+-- each point is finite; outside, at each point the printed pair recurs; cut, the form divides the cell
+pub record Decides (Root : Area) (b : Budget) (H : History) : Type 0 where
+  pub plan : IsPlan Root b H
+  pub partition : IsPartition Root (outcome_at H)
+  pub sound : (e : Entry) → Contains H e → IsSound (region_at Root (outcome_at H) e.path) b.wits e.outcome
 
--- The text is the certificate of the polygon with one outcome: that of its region where no cut is allowed. What the
--- outcome claims holds: inside, each point is finite; outside, at each point the printed pair recurs.
-pub record IsCertificate (vertices : List Vertex) (b : Budget) (text : List ℕ) : Type 0 where
-  pub outcome : Outcome
-  pub refined : Refines (region_of vertices) (Some AtDepth) b.wits outcome
-  pub sound : IsSound (region_of vertices) b.wits outcome
-  pub written : text ≡ certificate_text vertices b (outcome ∷ [])
+-- the text is the certificate of the polygon: it lists the plan of its region
+pub record IsCertificateOf (vertices : List Vertex) (b : Budget) (text : List ℕ) : Type 0 where
+  pub history : History
+  pub decides : Decides (region_of vertices) b history
+  pub written : IsTextOf vertices b history text
 
 -- the input is a polygon, and the output is its certificate
 pub record Certifies (b : Budget) (input output : List ℕ) : Type 0 where
   pub vertices : List Vertex
   pub polygon : SpellsPolygon input vertices
-  pub certificate : IsCertificate vertices b output
+  pub certificate : IsCertificateOf vertices b output
 
--- the input is no polygon, and the output says so
-pub record IsNoInput (input output : List ℕ) : Type 0 where
+-- the text is that of no polygon
+abbrev pub SpellsNoPolygon : List ℕ → Type 0
+SpellsNoPolygon text = (vs : List Vertex) → SpellsPolygon text vs → ⊥
+
+-- the input is no polygon, and the output says where it slips first
+pub record Refuses (input output : List ℕ) : Type 0 where
+  pub line : ℕ
+  pub slip : Slip
+  pub first : FirstSlip input line slip
   pub no_polygon : SpellsNoPolygon input
-  pub written : output ≡ refused_input
+  pub written : output ≡ refusal_line line slip
 
 -- what is written at Done and at Refused for the bytes that were read
-abbrev pub Owes : Budget → List ℕ → Status → List ℕ → Type 0
-Owes b input Done output = Certifies b input output
-Owes b input Refused output = IsNoInput input output
-Owes b input Bad output = ⊥
-Owes b input Usage output = ⊥
-Owes b input NoMemory output = ⊥
-Owes b input ReadFault output = ⊥
-Owes b input WriteFault output = ⊥
-Owes b input TooLong output = ⊥
+abbrev pub Owes : Command → List ℕ → Status → List ℕ → Type 0
+Owes (Certify limits) input Done output = Certifies limits input output
+Owes (Certify limits) input Refused output = Refuses input output
+Owes (Certify limits) input Bad output = ⊥
+Owes (Certify limits) input Usage output = ⊥
+Owes (Certify limits) input NoMemory output = ⊥
+Owes (Certify limits) input ReadFault output = ⊥
+Owes (Certify limits) input WriteFault output = ⊥
+Owes (Certify limits) input TooLong output = ⊥
+
+-- the input is one that the command takes
+abbrev pub IsInputOf : Command → List ℕ → Type 0
+IsInputOf (Certify limits) input = (vertices : List Vertex) × SpellsPolygon input vertices

@@ -1,7 +1,9 @@
 -- The words of the command line.
-use Rattle.std.specs.Prelude.{◌≡◌, ℕ, List, [], ◌∷◌, pos, codes}
+use Rattle.std.specs.Prelude.{◌≡◌, ◌^◌, ℕ, List, [], ◌∷◌, pos, codes}
 use Rattle.srs_text.specs.Spelling.{IsNumber}
 use Rattle.srs_path.specs.Views.{Budget, IsBudget}
+use Rattle.srs_tool.specs.declared.words.Command.{Command}
+use Rattle.srs_tool.specs.declared.words.Command.TheVariants.{Certify}
 
 -- three numbers, in their one spelling, that are a depth, a number of cells and a number of witnesses
 pub record SpellsLimits (depth cells wits : List ℕ) (b : Budget) : Type 0 where
@@ -18,7 +20,10 @@ pub record AsksCertify (words : List (List ℕ)) (b : Budget) : Type 0 where
   pub split : words ≡ codes "certify" ∷ depth ∷ cells ∷ wits ∷ []
   pub limits : SpellsLimits depth cells wits b
 
--- the words that the program knows: `certify 0 C W`
-pub record IsForm (words : List (List ℕ)) (b : Budget) : Type 0 where
-  pub certify : AsksCertify words b
-  pub no_cut : b.depth ≡ 0
+-- the words ask for the command
+abbrev pub Asks : List (List ℕ) → Command → Type 0
+Asks words (Certify limits) = AsksCertify words limits
+
+-- the longest input that the command takes, in bytes
+abbrev pub longest_input : Command → ℕ
+longest_input (Certify limits) = 2 ^ 20

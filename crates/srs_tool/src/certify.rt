@@ -1,47 +1,62 @@
 // The command `certify`.
 ghost use Rattle.std.specs.Prelude.{◌≡◌, ◌≤◌, ◌^◌, IfOk, length};
-ghost use Rattle.srs_plane.specs.Polygons.{region_of};
+ghost use Rattle.srs_plane.specs.Polygons.{IsPolygon, region_of};
+ghost use Rattle.srs_line.specs.declared.slip.Slip.{Slip};
 ghost use Rattle.srs_file.specs.Grammar.{SpellsPolygon};
-ghost use Rattle.srs_tool.specs.Output.{SpellsNoPolygon, IsCertificate};
+ghost use Rattle.srs_file.specs.PolygonReading.{FirstSlip};
+ghost use Rattle.srs_tool.specs.declared.words.Command.TheVariants.{Certify};
+ghost use Rattle.srs_tool.specs.Output.{SpellsNoPolygon, IsCertificateOf, refusal_line};
 ghost use Rattle.srs_tool.specs.Ends.{Tells};
 
-use crate::say::say;
+use crate::rounds::rounds;
+use crate::say::{refusal, say};
 use crate::status::Status;
 use srs_cell::Cell;
-use srs_file::{FileErr, read_polygon};
+use srs_file::{Cert, FileErr, Slip, read_polygon};
 use srs_num::NoMemory;
-use srs_path::{Last, Limits};
-use srs_plane::{Vertex, Vertices};
-use srs_print::put_certificate;
-use srs_refine::refine;
+use srs_path::Limits;
+use srs_plane::Vertices;
+use srs_print::put_cert;
 use srs_text::{Bytes, Sink};
 use std::alloc::Global;
 
-/// Answers for an input that was read to its end.
-pub fn answer<K: Sink>(alloc: Global, limits: &Limits, input: &[u8], sink: &mut K) -> Status
+/// Certifies the polygon that the input spells, or refuses the input, which was read to its end.
+pub fn certify<K: Sink>(alloc: Global, limits: &Limits, input: &[u8], sink: &mut K) -> Status
     requires { length input.now ≤ 2 ^ 20 }
-    ensures told { Tells limits.now input.now result (K.got sink.old) (K.got sink.new) (K.faults sink.old) (K.faults sink.new) }
+    ensures told { Tells (Certify limits.now) input.now result (K.got sink.old) (K.got sink.new) (K.faults sink.old) (K.faults sink.new) }
     ensures memory { result ≡ Status.NoMemory → sink.new ≡ sink.old }
 {
     match read_polygon(alloc, input) {
-        Ok((vertices, cell)) => certify(alloc, limits, input, vertices, cell, sink),
-        Err(FileErr::At(_, _)) => refuse(limits, input, sink),
+        Ok((vertices, cell)) => answer(alloc, limits, input, vertices, cell, sink),
+        Err(FileErr::At(line, slip)) => refuse(alloc, limits, input, line, slip, sink),
         Err(FileErr::NoMemory) => Status::NoMemory,
     }
 }
 
 // Refuses an input that is no polygon.
-fn refuse<K: Sink>(limits: &Limits, input: &[u8], sink: &mut K) -> Status
-    requires { SpellsNoPolygon input.now }
-    ensures told { Tells limits.now input.now result (K.got sink.old) (K.got sink.new) (K.faults sink.old) (K.faults sink.new) }
+fn refuse<K: Sink>(
+    alloc: Global,
+    limits: &Limits,
+    input: &[u8],
+    line: u32,
+    slip: Slip,
+    sink: &mut K,
+) -> Status
+    requires first { FirstSlip input.now line slip }
+    requires none { SpellsNoPolygon input.now }
+    ensures told { Tells (Certify limits.now) input.now result (K.got sink.old) (K.got sink.new) (K.faults sink.old) (K.faults sink.new) }
     ensures memory { result ≡ Status.NoMemory → sink.new ≡ sink.old }
 {
     let _limits = limits;
-    say(Status::Refused, sink, b"refused input\n")
+    let _input = input;
+    match refusal(alloc, line, slip) {
+        Ok(text) => say(Status::Refused, sink, text.as_slice()),
+        Err(_) => Status::NoMemory,
+    }
 }
 
 // Answers for the text of a polygon.
-fn certify<K: Sink>(
+fn answer<K: Sink>(
     alloc: Global,
     limits: &Limits,
     input: &[u8],
@@ -51,29 +66,34 @@ fn certify<K: Sink>(
 ) -> Status
     requires polygon { SpellsPolygon input.now vertices }
     requires region { cell ≡ region_of vertices }
-    ensures told { Tells limits.now input.now result (K.got sink.old) (K.got sink.new) (K.faults sink.old) (K.faults sink.new) }
+    ensures told { Tells (Certify limits.now) input.now result (K.got sink.old) (K.got sink.new) (K.faults sink.old) (K.faults sink.new) }
     ensures memory { result ≡ Status.NoMemory → sink.new ≡ sink.old }
 {
     let _input = input;
-    match certificate(alloc, limits, vertices.as_slice(), &cell) {
+    match certificate(alloc, limits, &vertices, cell) {
         Ok(text) => say(Status::Done, sink, text.as_slice()),
         Err(NoMemory) => Status::NoMemory,
     }
 }
 
-// The certificate of a polygon that isn't cut.
+// The certificate of the polygon with this cell.
 fn certificate(
     alloc: Global,
     limits: &Limits,
-    vertices: &[Vertex],
-    cell: &Cell,
+    vertices: &Vertices,
+    cell: Cell,
 ) -> Result<Bytes, NoMemory>
-    requires { cell.now ≡ region_of vertices.now }
-    ensures { IfOk result (IsCertificate vertices.now limits.now) }
+    requires polygon { IsPolygon vertices.now }
+    requires region { cell ≡ region_of vertices.now }
+    ensures { IfOk result (IsCertificateOf vertices.now limits.now) }
 {
-    let finding = refine(alloc, cell, Some(Last::Depth), limits.wits())?;
+    // A cell has a point.
+    let _ = cell.region();
+    let version = rounds(alloc, cell, limits)?;
+    let events = version.preorder(alloc)?;
+    let cert = Cert::new(alloc, vertices.as_slice(), *limits, events)?;
     let mut text = Bytes::new(alloc);
-    match put_certificate(&mut text, vertices, limits, finding.outcome()) {
+    match put_cert(&mut text, &cert) {
         Ok(()) => Ok(text),
         Err(_) => Err(NoMemory),
     }

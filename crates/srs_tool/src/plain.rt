@@ -1,38 +1,35 @@
 // The top call of the commands that start no thread.
-ghost use Rattle.std.specs.Prelude.{◌≡◌, ◌≢◌, ◌⊎◌, List, ℕ, map, string_bytes};
+ghost use Rattle.std.specs.Prelude.{◌≡◌, ◌≢◌, ◌⊎◌, List, ℕ, ◌≤◌, length, map, string_bytes};
 ghost use Rattle.std.specs.Io.KnownBytes.{Appends};
 ghost use Rattle.srs_text.specs.Ends.{Rose, AppendsFront};
-ghost use Rattle.srs_path.specs.Views.{Budget};
-ghost use Rattle.srs_tool.specs.Words.{IsForm};
+ghost use Rattle.srs_tool.specs.declared.words.Command.{Command};
+ghost use Rattle.srs_tool.specs.Words.{Asks, longest_input};
 ghost use Rattle.srs_tool.specs.Output.{refused_long};
-ghost use Rattle.srs_tool.specs.Ends.{Completes, StopsShort, AnswersFor, BreaksFor, IsOverlong};
+ghost use Rattle.srs_tool.specs.Ends.{Completes, StopsShort, Overruns, IsGoodRun, AnswersFor, BreaksFor, IsOverlong, Tells};
 
-use crate::certify::answer;
+use crate::certify::certify;
 use crate::say::say;
 use crate::status::Status;
-use crate::words::form_of;
-use srs_path::Limits;
+use crate::words::{Command, command_of};
 use srs_text::{ReadErr, Sink, Source, read_all};
 use std::alloc::Global;
 
-/// The longest input, in bytes.
-const LIMIT: u64 = 1 << 20;
-
 /// Does what the words ask for: reads the source, and writes to the sink.
 ///
-/// At `Done` the source was read to its end, its bytes are the text of a polygon, and its certificate was written, with
-/// the one outcome that the polygon has where it isn't cut: inside, and every pair reaches (0,0) at each of its points;
-/// outside, and the printed cycle comes back at each of its points; or left with its cause. At `Refused` the bytes are
-/// the text of no polygon, and what was written says so. After a refusal the source has lost what was taken from it; at
-/// `NoMemory` nothing was written.
+/// At `Done` of `certify` the source was read to its end, its bytes are the text of a polygon, and its certificate was
+/// written: the plan of the polygon's region in preorder. The leaves of the plan partition the region; each point of a
+/// cell that is inside is finite, and at each point of one that is outside the printed cycle comes back. At `Refused`
+/// the bytes are the text of no polygon, and what was written names the first slip and its line. A good input of at
+/// most 2^20 bytes ends with `Done` or `NoMemory`, unless an end fails. After a refusal the source has lost what was
+/// taken from it; at `NoMemory` nothing was written.
 pub fn plain<S: Source, K: Sink>(
     alloc: Global,
     words: &[String],
     source: &mut S,
     sink: &mut K,
 ) -> Status
-    ensures usage { result ≡ Status.Usage → (limits : Budget) → IsForm (map string_bytes words.now) limits → ⊥ }
-    ensures used { result ≢ Status.Usage → (limits : Budget) × IsForm (map string_bytes words.now) limits }
+    ensures usage { result ≡ Status.Usage → (command : Command) → Asks (map string_bytes words.now) command → ⊥ }
+    ensures used { result ≢ Status.Usage → (command : Command) × Asks (map string_bytes words.now) command }
     ensures idle { result ≡ Status.Usage → (source.new ≡ source.old) × (sink.new ≡ sink.old) }
 
     ensures done { result ≡ Status.Done →
@@ -44,14 +41,16 @@ pub fn plain<S: Source, K: Sink>(
     ensures write { result ≡ Status.WriteFault → Rose (K.faults sink.old) (K.faults sink.new) }
     ensures front { result ≡ Status.WriteFault →
         StopsShort (map string_bytes words.now) (S.left source.old) (S.left source.new) (K.got sink.old) (K.got sink.new)
-        ⊎ (IsOverlong (S.left source.old) (S.left source.new) × AppendsFront (K.got sink.old) (K.got sink.new) refused_long) }
+        ⊎ (Overruns (map string_bytes words.now) (S.left source.old) (S.left source.new) × AppendsFront (K.got sink.old) (K.got sink.new) refused_long) }
     ensures long { result ≡ Status.TooLong →
-        IsOverlong (S.left source.old) (S.left source.new) × Appends (K.got sink.old) (K.got sink.new) refused_long }
+        Overruns (map string_bytes words.now) (S.left source.old) (S.left source.new) × Appends (K.got sink.old) (K.got sink.new) refused_long }
     ensures memory { result ≡ Status.NoMemory → sink.new ≡ sink.old }
     ensures bad { result ≢ Status.Bad }
+    ensures complete { IsGoodRun (map string_bytes words.now) (S.left source.old) → ¬ (Rose (S.faults source.old) (S.faults source.new))
+        → ¬ (Rose (K.faults sink.old) (K.faults sink.new)) → (result ≡ Status.Done) ⊎ (result ≡ Status.NoMemory) }
 {
-    match form_of(words) {
-        Some(limits) => read_and_answer(alloc, &limits, source, sink),
+    match command_of(words) {
+        Some(command) => read_and_answer(alloc, &command, source, sink),
         None => Status::Usage,
     }
 }
@@ -59,28 +58,48 @@ pub fn plain<S: Source, K: Sink>(
 // Reads the source to its end, and answers for what it gave.
 fn read_and_answer<S: Source, K: Sink>(
     alloc: Global,
-    limits: &Limits,
+    command: &Command,
     source: &mut S,
     sink: &mut K,
 ) -> Status
     ensures other { (result ≢ Status.Usage) × (result ≢ Status.Bad) }
     ensures done { result ≡ Status.Done →
-        AnswersFor limits.now Status.Done (S.left source.old) (S.left source.new) (K.got sink.old) (K.got sink.new) }
+        AnswersFor command.now Status.Done (S.left source.old) (S.left source.new) (K.got sink.old) (K.got sink.new) }
     ensures refused { result ≡ Status.Refused →
-        AnswersFor limits.now Status.Refused (S.left source.old) (S.left source.new) (K.got sink.old) (K.got sink.new) }
+        AnswersFor command.now Status.Refused (S.left source.old) (S.left source.new) (K.got sink.old) (K.got sink.new) }
     ensures read { result ≡ Status.ReadFault → Rose (S.faults source.old) (S.faults source.new) × (sink.new ≡ sink.old) }
     ensures write { result ≡ Status.WriteFault → Rose (K.faults sink.old) (K.faults sink.new) }
     ensures front { result ≡ Status.WriteFault →
-        BreaksFor limits.now (S.left source.old) (S.left source.new) (K.got sink.old) (K.got sink.new)
-        ⊎ (IsOverlong (S.left source.old) (S.left source.new) × AppendsFront (K.got sink.old) (K.got sink.new) refused_long) }
+        BreaksFor command.now (S.left source.old) (S.left source.new) (K.got sink.old) (K.got sink.new)
+        ⊎ (IsOverlong command.now (S.left source.old) (S.left source.new) × AppendsFront (K.got sink.old) (K.got sink.new) refused_long) }
     ensures long { result ≡ Status.TooLong →
-        IsOverlong (S.left source.old) (S.left source.new) × Appends (K.got sink.old) (K.got sink.new) refused_long }
+        IsOverlong command.now (S.left source.old) (S.left source.new) × Appends (K.got sink.old) (K.got sink.new) refused_long }
     ensures memory { result ≡ Status.NoMemory → sink.new ≡ sink.old }
 {
-    match read_all(alloc, source, LIMIT) {
-        Ok(input) => answer(alloc, limits, input.as_slice(), sink),
+    match read_all(alloc, source, limit_of(command)) {
+        Ok(input) => answer(alloc, command, input.as_slice(), sink),
         Err(ReadErr::Fault) => Status::ReadFault,
         Err(ReadErr::TooLong) => say(Status::TooLong, sink, b"refused long\n"),
         Err(ReadErr::NoMemory) => Status::NoMemory,
+    }
+}
+
+// The longest input of the command, in bytes.
+fn limit_of(command: &Command) -> u64
+    ensures { result ≡ longest_input command.now }
+{
+    match command {
+        Command::Certify(_) => 1 << 20,
+    }
+}
+
+// Answers for an input that was read to its end.
+fn answer<K: Sink>(alloc: Global, command: &Command, input: &[u8], sink: &mut K) -> Status
+    requires { length input.now ≤ longest_input command.now }
+    ensures told { Tells command.now input.now result (K.got sink.old) (K.got sink.new) (K.faults sink.old) (K.faults sink.new) }
+    ensures memory { result ≡ Status.NoMemory → sink.new ≡ sink.old }
+{
+    match command {
+        Command::Certify(limits) => certify(alloc, limits, input, sink),
     }
 }

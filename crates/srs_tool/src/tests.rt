@@ -69,6 +69,10 @@ fn for_words(words: &'static str, input: &'static str, output: &'static str) -> 
     }
 }
 
+fn refused(input: &'static str, output: &'static str) -> Run {
+    certify(input, Status::Refused, output)
+}
+
 fn usage(words: &'static str) -> Run {
     Run {
         words,
@@ -101,6 +105,12 @@ fn play(alloc: Global, run: &Run) -> Result<Seen, Fail> {
     })
 }
 
+// Whether the run ends with its status, and writes its output.
+fn agrees(alloc: Global, run: &Run) -> Result<bool, Fail> {
+    let seen = play(alloc, run)?;
+    Ok(seen.status == run.status && seen.sink.bytes() == run.output.as_bytes())
+}
+
 #[test]
 fn small_cells(rt: HostRuntime) -> Result<(), Fail> {
     let corner = "polygon 3\nge 0 0 1\nge 1 0 8\nge 0 1 8\nend\n";
@@ -124,9 +134,7 @@ fn small_cells(rt: HostRuntime) -> Result<(), Fail> {
         ),
     ];
     for run in &runs {
-        let seen = play(rt.alloc(), run)?;
-        assert_eq!(rt; seen.status, run.status, "at {:?}", run.input);
-        assert_eq!(rt; seen.sink.bytes(), run.output.as_bytes());
+        assert!(rt; agrees(rt.alloc(), run)?, "at {:?}", run.input);
     }
     Ok(())
 }
@@ -144,6 +152,22 @@ fn left_cells(rt: HostRuntime) -> Result<(), Fail> {
             "polygon 3\nge -1 -1 8\nge 1 -1 8\nge 0 1 8\nend\n",
             "srs 1\npolygon 3\nge -1 -1 8\nge 1 -1 8\nge 0 1 8\nlimits 0 64 16\nleft depth cycle\nend\n",
         ),
+        for_words(
+            "certify 1 64 16",
+            "polygon 3\nge -1 -1 8\nge 1 -1 8\nge 0 1 8\nend\n",
+            "srs 1\npolygon 3\nge -1 -1 8\nge 1 -1 8\nge 0 1 8\nlimits 1 64 16\ncut 0 1 0\nleft depth cycle\nleft depth cycle\nend\n",
+        ),
+        // two more cells would be one too many
+        for_words(
+            "certify 1 2 16",
+            "polygon 3\nge -1 -1 8\nge 1 -1 8\nge 0 1 8\nend\n",
+            "srs 1\npolygon 3\nge -1 -1 8\nge 1 -1 8\nge 0 1 8\nlimits 1 2 16\nleft cells cycle\nend\n",
+        ),
+        for_words(
+            "certify 1 3 16",
+            "polygon 3\nge -1 -1 8\nge 1 -1 8\nge 0 1 8\nend\n",
+            "srs 1\npolygon 3\nge -1 -1 8\nge 1 -1 8\nge 0 1 8\nlimits 1 3 16\ncut 0 1 0\nleft depth cycle\nleft depth cycle\nend\n",
+        ),
         // the most cells and the most witnesses
         for_words(
             "certify 0 65536 1",
@@ -157,10 +181,42 @@ fn left_cells(rt: HostRuntime) -> Result<(), Fail> {
         ),
     ];
     for run in &runs {
-        let seen = play(rt.alloc(), run)?;
-        assert_eq!(rt; seen.status, run.status, "at {:?}", run.input);
-        assert_eq!(rt; seen.sink.bytes(), run.output.as_bytes());
+        assert!(rt; agrees(rt.alloc(), run)?, "at {:?}", run.input);
     }
+    Ok(())
+}
+
+#[test]
+fn cut_cells(rt: HostRuntime) -> Result<(), Fail> {
+    let runs = [
+        for_words(
+            "certify 2 64 16",
+            "polygon 3\nge -1 0 8\nge 0 -1 8\nge 1 0 8\nend\n",
+            "srs 1\npolygon 3\nge -1 0 8\nge 0 -1 8\nge 1 0 8\nlimits 2 64 16\ncut 0 1 0\ncut 1 0 0\nin 5\nw -1 0 3\nw 0 -1 4\nw 0 0 0\nw 0 1 2\nw 1 0 1\nout 2 0 1\ncut 1 1 0\nin 9\nw -1 -1 5\nw -1 0 4\nw -1 1 3\nw 0 -1 5\nw 0 0 0\nw 0 1 3\nw 1 -1 5\nw 1 0 1\nw 1 1 2\nout 1 1\nend\n",
+        ),
+        // the first part is the one point (17/8, 0)
+        for_words(
+            "certify 2 64 64",
+            "polygon 3\nge 2 0 1\nge 17 0 8\nge 16 1 8\nend\n",
+            "srs 1\npolygon 3\nge 2 0 1\nge 17 0 8\nge 16 1 8\nlimits 2 64 64\ncut 8 0 -17\nleft thin\ncut 0 8 -1\nleft depth witness\nleft depth witness\nend\n",
+        ),
+    ];
+    for run in &runs {
+        assert!(rt; agrees(rt.alloc(), run)?, "at {:?}", run.input);
+    }
+    Ok(())
+}
+
+#[test]
+fn whole_polygon(rt: HostRuntime) -> Result<(), Fail> {
+    let run = for_words(
+        "certify 6 256 64",
+        "polygon 3\nge -1 0 1\nge 1 -2 1\nge 1 2 1\nend\n",
+        "srs 1\npolygon 3\nge -1 0 1\nge 1 -2 1\nge 1 2 1\nlimits 6 256 64\ncut 1 0 0\n",
+    );
+    let seen = play(rt.alloc(), &run)?;
+    assert_eq!(rt; seen.status, run.status);
+    assert!(rt; seen.sink.bytes().starts_with(run.output.as_bytes()));
     Ok(())
 }
 
@@ -186,9 +242,7 @@ fn open_corners(rt: HostRuntime) -> Result<(), Fail> {
         ),
     ];
     for run in &runs {
-        let seen = play(rt.alloc(), run)?;
-        assert_eq!(rt; seen.status, run.status, "at {:?}", run.input);
-        assert_eq!(rt; seen.sink.bytes(), run.output.as_bytes());
+        assert!(rt; agrees(rt.alloc(), run)?, "at {:?}", run.input);
     }
     Ok(())
 }
@@ -199,7 +253,8 @@ fn unknown_words(rt: HostRuntime) -> Result<(), Fail> {
         usage("certify 0 1 0"),
         usage("certify 0 1 16385"),
         usage("certify 0 1 016"),
-        usage("certify 1 1 16"),
+        usage("certify 49 1 1"),
+        usage("certify -1 1 1"),
         usage("certify 0 0 16"),
         usage("certify 0 65537 1"),
         usage("certify 0 257 16384"),
@@ -220,47 +275,111 @@ fn unknown_words(rt: HostRuntime) -> Result<(), Fail> {
 }
 
 #[test]
-fn malformed_inputs(rt: HostRuntime) -> Result<(), Fail> {
-    let inputs = [
-        "",
-        "polygon 0\n",
-        "polygon 2\nge -2 -1 4\nge -1 -2 4\nend\n",
-        "polygon 17\n",
-        "polygon 3\nge -2 -1 4\nge -1 -2 4\nge -1 -1 4\nend",
-        "polygon 3\r\nge -2 -1 4\r\nge -1 -2 4\r\nge -1 -1 4\r\nend\r\n",
-        "polygon 3\nge  -2 -1 4\nge -1 -2 4\nge -1 -1 4\nend\n",
-        "polygon 3\nge -2 -1 4 \nge -1 -2 4\nge -1 -1 4\nend\n",
-        "polygon 3\nge -2 -1 04\nge -1 -2 4\nge -1 -1 4\nend\n",
-        "polygon 3\nge -2 -1 +4\nge -1 -2 4\nge -1 -1 4\nend\n",
-        "polygon 3\nge -2 -0 4\nge -1 -2 4\nge -1 -1 4\nend\n",
-        "polygon 3\nge -20000000000000000000 -1 4\nge -1 -2 4\nge -1 -1 4\nend\n",
-        "polygon 3\nge -2 -1 4\nge -1 -2 4\nge -1 -1 4\nge -2 -1 4\nend\n",
-        "polygon 3\nle -2 -1 4\nge -1 -2 4\nge -1 -1 4\nend\n",
-        "polygon 3\nge -2 -1 4\nge -1 -2 4\nge -1 -1 4\nend\nend\n",
-        "polygon 3\nge -2 -1 4\nge -1 -2 4\nge -1 -1 4\nend\nx",
-        "polygon 3\n\nge -2 -1 4\nge -1 -2 4\nge -1 -1 4\nend\n",
-        "polygon 3\nGE -2 -1 4\nge -1 -2 4\nge -1 -1 4\nend\n",
-        "polygon 3\nge -2 -1 4\nge -1 -2 4\nge -1 -1 4\nEnd\n",
-        "polygon 3\nge -2 -1 4\u{0}\nge -1 -2 4\nge -1 -1 4\nend\n",
-        "polygon 3\nge -2 -1 4\nge \u{e9}1 -2 4\nge -1 -1 4\nend\n",
-        "polygon 3\nge -2 -1\nge -1 -2 4\nge -1 -1 4\nend\n",
-        "polygon 3\nge -2 -1 0\nge -1 -2 4\nge -1 -1 4\nend\n",
-        "polygon 3\nge 1 0 65537\nge -1 -2 4\nge -1 -1 4\nend\n",
-        "polygon 3\nge 262145 0 65536\nge -1 -2 4\nge -1 -1 4\nend\n",
+fn refused_inputs(rt: HostRuntime) -> Result<(), Fail> {
+    let runs = [
+        refused("", "refused line 1 missing\n"),
+        refused("polygon 0\n", "refused line 1 count\n"),
+        refused(
+            "polygon 2\nge -2 -1 4\nge -1 -2 4\nend\n",
+            "refused line 1 count\n",
+        ),
+        refused("polygon 17\n", "refused line 1 count\n"),
+        refused(
+            "polygon 3\nge -2 -1 4\nge -1 -2 4\nge -1 -1 4\nend",
+            "refused line 5 missing\n",
+        ),
+        refused(
+            "polygon 3\r\nge -2 -1 4\r\nge -1 -2 4\r\nge -1 -1 4\r\nend\r\n",
+            "refused line 1 number\n",
+        ),
+        refused(
+            "polygon 3\nge  -2 -1 4\nge -1 -2 4\nge -1 -1 4\nend\n",
+            "refused line 2 word\n",
+        ),
+        refused(
+            "polygon 3\nge -2 -1 4 \nge -1 -2 4\nge -1 -1 4\nend\n",
+            "refused line 2 word\n",
+        ),
+        refused(
+            "polygon 3\nge -2 -1 04\nge -1 -2 4\nge -1 -1 4\nend\n",
+            "refused line 2 number\n",
+        ),
+        refused(
+            "polygon 3\nge -2 -1 4\nge -1 +2 4\nge -1 -1 4\nend\n",
+            "refused line 3 number\n",
+        ),
+        refused(
+            "polygon 3\nge -2 -0 4\nge -1 -2 4\nge -1 -1 4\nend\n",
+            "refused line 2 number\n",
+        ),
+        refused(
+            "polygon 3\nge -20000000000000000000 -1 4\nge -1 -2 4\nge -1 -1 4\nend\n",
+            "refused line 2 number\n",
+        ),
+        refused(
+            "polygon 3\nge -2 -1 4\nge -1 -2 4\nge -1 -1 4\nge -2 -1 4\nend\n",
+            "refused line 5 word\n",
+        ),
+        refused(
+            "polygon 3\nle -2 -1 4\nge -1 -2 4\nge -1 -1 4\nend\n",
+            "refused line 2 word\n",
+        ),
+        refused(
+            "polygon 3\nge -2 -1 4\nge -1 -2 4\nge -1 -1 4\nend\nend\n",
+            "refused line 6 tail\n",
+        ),
+        refused(
+            "polygon 3\nge -2 -1 4\nge -1 -2 4\nge -1 -1 4\nend\nx",
+            "refused line 6 tail\n",
+        ),
+        refused(
+            "polygon 3\n\nge -2 -1 4\nge -1 -2 4\nge -1 -1 4\nend\n",
+            "refused line 2 word\n",
+        ),
+        refused(
+            "polygon 3\nge -2 -1 4\u{0}\nge -1 -2 4\nge -1 -1 4\nend\n",
+            "refused line 2 number\n",
+        ),
+        refused(
+            "polygon 3\nge -2 -1 4\nge \u{e9}1 -2 4\nge -1 -1 4\nend\n",
+            "refused line 3 number\n",
+        ),
+        refused(
+            "polygon 3\nge -2 -1\nge -1 -2 4\nge -1 -1 4\nend\n",
+            "refused line 2 word\n",
+        ),
+        refused(
+            "polygon 3\nge -2 -1 0\nge -1 -2 4\nge -1 -1 4\nend\n",
+            "refused line 2 range\n",
+        ),
+        refused(
+            "polygon 3\nge 1 0 65537\nge -1 -2 4\nge -1 -1 4\nend\n",
+            "refused line 2 range\n",
+        ),
+        refused(
+            "polygon 3\nge 262145 0 65536\nge -1 -2 4\nge -1 -1 4\nend\n",
+            "refused line 2 range\n",
+        ),
         // on one line, turned the other way, twice round, and dented by nothing
-        "polygon 3\nge 0 0 1\nge 1 0 8\nge 1 0 4\nend\n",
-        "polygon 3\nge 0 0 1\nge 0 1 8\nge 1 0 8\nend\n",
-        "polygon 5\nge 0 3 1\nge -2 -2 1\nge 3 1 1\nge -3 1 1\nge 2 -2 1\nend\n",
-        "polygon 5\nge 0 0 1\nge 1 0 1\nge 1 1 1\nge 0 1 1\nge 0 1 2\nend\n",
+        refused(
+            "polygon 3\nge 0 0 1\nge 1 0 8\nge 1 0 4\nend\n",
+            "refused line 2 turn\n",
+        ),
+        refused(
+            "polygon 3\nge 0 0 1\nge 0 1 8\nge 1 0 8\nend\n",
+            "refused line 2 turn\n",
+        ),
+        refused(
+            "polygon 5\nge 0 3 1\nge -2 -2 1\nge 3 1 1\nge -3 1 1\nge 2 -2 1\nend\n",
+            "refused line 2 turn\n",
+        ),
+        refused(
+            "polygon 5\nge 0 0 1\nge 1 0 1\nge 1 1 1\nge 0 1 1\nge 0 1 2\nend\n",
+            "refused line 5 turn\n",
+        ),
     ];
-    for input in inputs {
-        let seen = play(rt.alloc(), &certify(input, Status::Refused, ""))?;
-        assert_eq!(rt; seen.status, Status::Refused, "at {input:?}");
-        assert_eq!(rt;
-            seen.sink.bytes(),
-            b"refused input\n".as_slice(),
-            "at {input:?}"
-        );
+    for run in &runs {
+        assert!(rt; agrees(rt.alloc(), run)?, "at {:?}", run.input);
     }
     Ok(())
 }

@@ -2,24 +2,28 @@
 ghost use Rattle.std.specs.Prelude.{◌≡◌, ◌↔◌, IsTrue, List, ℕ, [], ◌∷◌, map, codes, pos, ◌<◌, ◌^◌, string_bytes, IfSome, IfNone};
 ghost use Rattle.srs_text.specs.Spelling.{IsNumber};
 ghost use Rattle.srs_path.specs.Views.{Budget};
-ghost use Rattle.srs_tool.specs.Words.{SpellsLimits, AsksCertify, IsForm};
+ghost use Rattle.srs_tool.specs.declared.words.Command.{Command};
+ghost use Rattle.srs_tool.specs.Words.{SpellsLimits, AsksCertify, Asks};
 
 use srs_path::Limits;
 use srs_text::number;
 
-/// The limits that the words ask for, where they are a form that the program knows.
-pub fn form_of(words: &[String]) -> Option<Limits>
-    ensures some { IfSome result (IsForm (map string_bytes words.now)) }
-    ensures none { IfNone result ((b : Budget) → IsForm (map string_bytes words.now) b → ⊥) }
+/// What the words ask for.
+#[derive(Drop)]
+pub enum Command {
+    /// To divide the polygon that is read, and print its certificate.
+    Certify(Limits),
+}
+
+/// The command that the words ask for, where they are in one of the forms that the program knows.
+pub fn command_of(words: &[String]) -> Option<Command>
+    ensures some { IfSome result (Asks (map string_bytes words.now)) }
+    ensures none { IfNone result ((command : Command) → Asks (map string_bytes words.now) command → ⊥) }
 {
-    let limits = match certify_limits(words) {
-        Some(limits) => limits,
-        None => return None,
-    };
-    if limits.depth() != 0 {
-        return None;
+    match certify_limits(words) {
+        Some(limits) => Some(Command::Certify(limits)),
+        None => None,
     }
-    Some(limits)
 }
 
 // The limits behind `certify`.

@@ -14,7 +14,7 @@ use Rattle.srs_path.specs.declared.outcomes.Outcome.{Outcome}
 use Rattle.srs_path.specs.declared.outcomes.Outcome.TheVariants.{Cut}
 use Rattle.srs_path.specs.Views.{Entry}
 use Rattle.srs_tree.specs.Tree.{History, IsCellOf}
-use Rattle.srs_tree.specs.Snapshots.{Snapshot}
+use Rattle.srs_tree.specs.Snapshots.{Entries, Snapshot}
 use Rattle.srs_tree.specs.Nodes.{Spot, entries_of, snapshot_of, spots_tree, AreSpots}
 use Rattle.srs_tree.specs.Preorder.{event_of, begins, preorder_of, preorder_below}
 use Rattle.srs_tree.proofs.Trees.{none_below}
@@ -30,24 +30,24 @@ depth_of (Some x) = length x.path
 abbrev pub depth_at : List Spot → ℕ → ℕ
 depth_at xs i = depth_of (slice_get xs i)
 
-module _ (xs : List Spot) (tree : AreSpots xs) where
+module _ (m : Entries) (closed : (p : List Side) (o : Outcome) → finite.get m p ≡ Some o → IsCellOf (finite.get m) p) where
   abbrev pairs : List Pair
-  pairs = finite.entries (entries_of xs)
+  pairs = finite.entries m
 
-  found : (p : List Side) → finite.find before p pairs ≡ spots_tree xs p
-  found p = sym (finite.get-entries (entries_of xs) p)
+  found : (p : List Side) → finite.find before p pairs ≡ finite.get m p
+  found p = sym (finite.get-entries m p)
 
   -- the entries below p: its own, and those below its sides
-  parts : (p : List Side) → preorder_below (entries_of xs) p ≡ map event_of (entry_list p (spots_tree xs p)) ++ (preorder_below (entries_of xs) (p ++ Ge ∷ []) ++ preorder_below (entries_of xs) (p ++ Lt ∷ []))
+  pub parts : (p : List Side) → preorder_below m p ≡ map event_of (entry_list p (finite.get m p)) ++ (preorder_below m (p ++ Ge ∷ []) ++ preorder_below m (p ++ Lt ∷ []))
   parts p =
-      ap (map event_of) (split p pairs (finite.entries_sorted (entries_of xs))
+      ap (map event_of) (split p pairs (finite.entries_sorted m)
       ∙ ap (λ (u : List Pair). u ++ (below (p ++ Ge ∷ []) pairs ++ below (p ++ Lt ∷ []) pairs))
-      (own_entry p pairs (finite.entries_sorted (entries_of xs)) ∙ ap (entry_list p) (found p)))
-      ∙ map-append event_of (entry_list p (spots_tree xs p)) (below (p ++ Ge ∷ []) pairs ++ below (p ++ Lt ∷ []) pairs)
-      ∙ ap (λ (u : History). map event_of (entry_list p (spots_tree xs p)) ++ u) (map-append event_of (below (p ++ Ge ∷ []) pairs) (below (p ++ Lt ∷ []) pairs))
+      (own_entry p pairs (finite.entries_sorted m) ∙ ap (entry_list p) (found p)))
+      ∙ map-append event_of (entry_list p (finite.get m p)) (below (p ++ Ge ∷ []) pairs ++ below (p ++ Lt ∷ []) pairs)
+      ∙ ap (λ (u : History). map event_of (entry_list p (finite.get m p)) ++ u) (map-append event_of (below (p ++ Ge ∷ []) pairs) (below (p ++ Lt ∷ []) pairs))
 
   -- below a path without a cut there are no entries
-  none_on : (p : List Side) (s : Side) → ((h : LinearForm) → spots_tree xs p ≡ Some (Cut h) → ⊥) → below (p ++ s ∷ []) pairs ≡ []
+  none_on : (p : List Side) (s : Side) → ((h : LinearForm) → finite.get m p ≡ Some (Cut h) → ⊥) → below (p ++ s ∷ []) pairs ≡ []
   none_on p s plain = none_pass (λ (e : Pair). begins (p ++ s ∷ []) e.0) pairs fails
     where
       fails : (k : ℕ) (d : Pair) → k < length pairs → begins (p ++ s ∷ []) (get_or pairs k d).0 ≡ false
@@ -57,32 +57,33 @@ module _ (xs : List Spot) (tree : AreSpots xs) where
           by_test false q = q
           by_test true q =
               let t = begun (p ++ s ∷ []) (get_or pairs k d).0 q in
-              let there : spots_tree xs (get_or pairs k d).0 ≡ Some (get_or pairs k d).1 = sym (found (get_or pairs k d).0) ∙ entry_found pairs (finite.entries_sorted (entries_of xs)) k d l in
-              let cell : IsCellOf (spots_tree xs) (get_or pairs k d).0 = spots_closed xs tree _ _ there in
-              absurd (none_below (spots_tree xs) (spots_closed xs tree) p t.0 s plain (subst (IsCellOf (spots_tree xs)) (t.1 ∙ append_assoc p (s ∷ []) t.0) cell))
+              let there : finite.get m (get_or pairs k d).0 ≡ Some (get_or pairs k d).1 = sym (found (get_or pairs k d).0) ∙ entry_found pairs (finite.entries_sorted m) k d l in
+              let cell : IsCellOf (finite.get m) (get_or pairs k d).0 = closed _ _ there in
+              absurd (none_below (finite.get m) closed p t.0 s plain (subst (IsCellOf (finite.get m)) (t.1 ∙ append_assoc p (s ∷ []) t.0) cell))
 
-  leaf_parts : (p : List Side) → ((h : LinearForm) → spots_tree xs p ≡ Some (Cut h) → ⊥) → preorder_below (entries_of xs) p ≡ map event_of (entry_list p (spots_tree xs p))
+  pub leaf_parts : (p : List Side) → ((h : LinearForm) → finite.get m p ≡ Some (Cut h) → ⊥) → preorder_below m p ≡ map event_of (entry_list p (finite.get m p))
   leaf_parts p plain =
-      parts p ∙ ap₂ (λ (u v : List Pair). map event_of (entry_list p (spots_tree xs p)) ++ (map event_of u ++ map event_of v)) (none_on p Ge plain) (none_on p Lt plain)
-      ∙ append-nil (map event_of (entry_list p (spots_tree xs p)))
+      parts p ∙ ap₂ (λ (u v : List Pair). map event_of (entry_list p (finite.get m p)) ++ (map event_of u ++ map event_of v)) (none_on p Ge plain) (none_on p Lt plain)
+      ∙ append-nil (map event_of (entry_list p (finite.get m p)))
 
+module _ (xs : List Spot) (tree : AreSpots xs) where
   module _ (i : ℕ) (x : Spot) (e : slice_get xs i ≡ Some x) where
     there : spots_tree xs x.path ≡ x.outcome
     there = tree_there xs tree.once i x e
 
     pub walk_none : x.outcome ≡ None → preorder_below (entries_of xs) x.path ≡ []
     walk_none q =
-        leaf_parts x.path (λ h r. none-some (Cut h) (sym q ∙ sym there ∙ r))
+        leaf_parts (entries_of xs) (spots_closed xs tree) x.path (λ h r. none-some (Cut h) (sym q ∙ sym there ∙ r))
         ∙ ap (λ (u : Option Outcome). map event_of (entry_list x.path u)) (there ∙ q)
 
     pub walk_leaf : (o : Outcome) → x.outcome ≡ Some o → ((h : LinearForm) → x.outcome ≡ Some (Cut h) → ⊥) → preorder_below (entries_of xs) x.path ≡ event_of (x.path, o) ∷ []
     walk_leaf o q plain =
-        leaf_parts x.path (λ h r. plain h (sym there ∙ r))
+        leaf_parts (entries_of xs) (spots_closed xs tree) x.path (λ h r. plain h (sym there ∙ r))
         ∙ ap (λ (u : Option Outcome). map event_of (entry_list x.path u)) (there ∙ q)
 
     pub walk_cut : (o : Outcome) → x.outcome ≡ Some o → preorder_below (entries_of xs) x.path ≡ event_of (x.path, o) ∷ (preorder_below (entries_of xs) (x.path ++ Ge ∷ []) ++ preorder_below (entries_of xs) (x.path ++ Lt ∷ []))
     walk_cut o q =
-        parts x.path
+        parts (entries_of xs) (spots_closed xs tree) x.path
         ∙ ap (λ (u : Option Outcome). map event_of (entry_list x.path u) ++ (preorder_below (entries_of xs) (x.path ++ Ge ∷ []) ++ preorder_below (entries_of xs) (x.path ++ Lt ∷ []))) (there ∙ q)
 
     -- a part is one side deeper
@@ -110,7 +111,7 @@ joined J0 J1 J2 J3 A B C e a b c d =
     c ∙ ap (λ (u : History). u ++ B) (b ∙ ap (λ (u : History). u ++ A) a)
     ∙ append_assoc (J0 ++ e ∷ []) A B ∙ append_assoc J0 (e ∷ []) (A ++ B) ∙ ap (λ (u : History). J0 ++ u) (sym d)
 
-all_begin : (ps : List Pair) → filter (λ (e : Pair). begins [] e.0) ps ≡ ps
+pub all_begin : (ps : List Pair) → filter (λ (e : Pair). begins [] e.0) ps ≡ ps
 all_begin [] = refl
 all_begin (e ∷ ps) = ap (λ (u : List Pair). e ∷ u) (all_begin ps)
 

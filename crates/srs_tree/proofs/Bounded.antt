@@ -6,7 +6,7 @@ use Rattle.std.specs.Cmp.{decided}
 use Rattle.std.specs.Set.{is_member}
 use Rattle.std.proofs.lemmas.Bool.Decides.{nat_tests, Decides-eqb}
 use Rattle.std.proofs.lemmas.Option.{none-some}
-use Rattle.std.proofs.lemmas.List.{map-append}
+use Rattle.std.proofs.lemmas.List.{map-append, length-map}
 use Rattle.std.proofs.lemmas.List.Elements.{Contains-push_cases, Contains-get_or}
 use Rattle.std.proofs.lemmas.List.Kept.{AllPairs-filter}
 use Rattle.std.proofs.lemmas.List.Quantifiers.{all_pairs_push}
@@ -21,7 +21,7 @@ use Rattle.srs_path.specs.declared.outcomes.Outcome.{Outcome}
 use Rattle.srs_path.specs.declared.outcomes.Outcome.TheVariants.{Inside, Outside, Cut, Left}
 use Rattle.srs_path.specs.declared.limits.Last.{Last}
 use Rattle.srs_path.specs.declared.limits.Last.TheVariants.{Depth, Cells}
-use Rattle.srs_path.specs.Views.{Budget}
+use Rattle.srs_path.specs.Views.{Budget, last_of}
 use Rattle.srs_path.specs.Views.{Entry}
 use Rattle.srs_path.specs.Refinement.{Refines}
 use Rattle.srs_tree.specs.Tree.{History, path_eq, outcome_at, IsCellOf}
@@ -192,6 +192,16 @@ cuts_row Root W H k legal =
     (λ q c. let t = p.to q c in (cells_are Root W H legal).from q (cell_of_outcome Root W H legal q t.0 t.1)) in
     omega (arith, a, cuts_paths k H)
 
+-- no more events than cells
+pub events_few : (Root : Area) (W : ℕ) (H : History) → IsLegal Root W H → length H ≤ length (cells_of H)
+events_few Root W H legal =
+    let p = paths_are Root W H legal in
+    let a = count_fewer (λ (q : List Side). true) (paths H) (cells_of H) p.once
+    (λ q c. let t = p.to q c in (cells_are Root W H legal).from q (cell_of_outcome Root W H legal q t.0 t.1)) in
+    let b = count_all (λ (q : List Side). true) (paths H) (λ q c. refl) in
+    let d = count_all (λ (q : List Side). true) (cells_of H) (λ q c. refl) in
+    omega (arith, a, b, d, length-map H (λ (e : Entry). e.path))
+
 -- no cut where the row is a last one
 refine_no_cut : (R : Area) (last : Option Last) (W : ℕ) (o : Outcome) → (last ≡ None → ⊥) → Refines R last W o → is_cut o ≡ false
 refine_no_cut R last W (Inside rs) n r = refl
@@ -209,6 +219,14 @@ last_room false c n e = by_test (nat_lt c n) refl e
     by_test : (t : Bool) → nat_lt c n ≡ t → ◌≡◌ {A = Option Last} (if t then Some Cells else None) None → n ≤ c
     by_test true q e = absurd (none-some Cells (sym e))
     by_test false q e = lt_false q
+
+-- where no limit is spent, there is room for two cells more for each that is pending
+pub last_fits : (L : Budget) (k c n : ℕ) → last_of L k c n ≡ None → c + 2 * n ≤ L.cells
+last_fits L k c n e = last_room (k == L.depth) L.cells (c + 2 * n) e
+
+-- at the greatest depth a limit is spent
+pub last_at_depth : (L : Budget) (k c n : ℕ) → k ≡ L.depth → last_of L k c n ≡ None → ⊥
+last_at_depth L k c n q e = none-some Depth (sym e ∙ ap (λ (b : Bool). if b then Some Depth else (if nat_lt L.cells (c + 2 * n) then Some Cells else None)) ((Decides-eqb k L.depth).1 q))
 
 none_or_not : (x : Option Last) → (x ≡ None) ⊎ (x ≡ None → ⊥)
 none_or_not None = inl refl

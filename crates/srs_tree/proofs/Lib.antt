@@ -22,3 +22,5 @@ pub mod PlannedSteps
 pub mod Bounded
 pub mod Opened
 pub mod RoundCounts
+pub mod FewEntries
+pub mod Listed

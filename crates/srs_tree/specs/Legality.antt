@@ -1,5 +1,5 @@
 -- When a history is legal.
-use Rattle.std.specs.Prelude.{◌≡◌, ℕ, take, slice_get, Some, None}
+use Rattle.std.specs.Prelude.{◌≡◌, ℕ, take, slice_get, Contains, Some, None}
 use Rattle.srs_plane.specs.Regions.{Area, HasPoint}
 use Rattle.srs_path.specs.Views.{Entry}
 use Rattle.srs_path.specs.Soundness.{IsSound}
@@ -18,3 +18,9 @@ IsLegal Root W H = (k : ℕ) (e : Entry) → slice_get H k ≡ Some e → MayFol
 -- the statement that the leaves of each legal history partition its root region, where that has a point
 abbrev pub LegalIsPartition : Type 0
 LegalIsPartition = (Root : Area) (W : ℕ) (H : History) → HasPoint Root → IsLegal Root W H → IsPartition Root (outcome_at H)
+
+-- the statement that what each event of a legal history claims holds of its cell
+abbrev pub LegalIsSound : Type 0
+LegalIsSound =
+    (Root : Area) (W : ℕ) (H : History) (e : Entry) → IsLegal Root W H → Contains H e
+    → IsSound (region_at Root (outcome_at H) e.path) W e.outcome

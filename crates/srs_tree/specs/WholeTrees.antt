@@ -4,9 +4,12 @@ use Rattle.std.specs.List.{All}
 use Rattle.srs_path.specs.declared.paths.Side.{Side}
 use Rattle.srs_path.specs.declared.outcomes.Outcome.{Outcome}
 use Rattle.srs_path.specs.declared.outcomes.Outcome.TheVariants.{Inside, Outside, Cut, Left}
-use Rattle.srs_path.specs.Views.{Budget, Entry}
-use Rattle.srs_tree.specs.Tree.{History}
-use Rattle.srs_tree.specs.Rounds.{parts_by}
+use Rattle.srs_plane.specs.Regions.{Area}
+use Rattle.srs_path.specs.Views.{Budget, IsBudget, Entry}
+use Rattle.srs_tree.specs.Tree.{History, outcome_at, IsCellOf}
+use Rattle.srs_tree.specs.Rounds.{parts_by, cells_of, IsWhole}
+use Rattle.srs_tree.specs.Snapshots.{Snapshot, StandsFor}
+use Rattle.srs_tree.specs.Preorder.{preorder_of}
 
 -- the events of the trees below the paths that wait, and no other: each path's event, then those below its Ge part, then
 -- those below its Lt part
@@ -36,3 +39,18 @@ KeepsTo b e = AllowsAt b (length e.path) e.outcome
 pub record IsWithin (b : Budget) (H : History) : Type 0 where
   pub cells : length H ≤ b.cells
   pub each : All (KeepsTo b) H
+
+-- H has no more cells than are allowed, and none deeper than is allowed
+pub record IsBounded (b : Budget) (H : History) : Type 0 where
+  pub cells : length (cells_of H) ≤ b.cells
+  pub depth : (path : List Side) → IsCellOf (outcome_at H) path → length path ≤ b.depth
+
+-- the statement that each whole history keeps to the bounds on cells
+abbrev pub WholeIsBounded : Type 0
+WholeIsBounded = (Root : Area) (b : Budget) (H : History) → IsBudget b → IsWhole Root b H → IsBounded b H
+
+-- the statement that the events of a whole history, in preorder, list a whole tree within the limits
+abbrev pub WholeIsListed : Type 0
+WholeIsListed =
+    (Root : Area) (b : Budget) (H : History) (v : Snapshot) → IsBudget b → IsWhole Root b H → StandsFor Root H v
+    → ListsWholeTree (preorder_of v) × IsWithin b (preorder_of v)

@@ -6,12 +6,14 @@ mod journals;
 mod laws;
 mod nodes;
 mod refusals;
+mod sharing;
 mod versions;
 mod waiting;
 mod walks;
 
 pub use journals::Journal;
-pub use laws::histories;
+pub use laws::{histories, whole_trees};
 pub use refusals::TreeErr;
+pub use sharing::shared;
 pub use versions::Version;
 pub use waiting::Pending;

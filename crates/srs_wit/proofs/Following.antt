@@ -9,8 +9,8 @@ use Rattle.srs_num.proofs.Linear.{linear}
 use Rattle.srs_map.specs.Step.{pair}
 use Rattle.srs_plane.specs.Regions.{Area}
 use Rattle.srs_path.specs.Witnesses.{IsWitness, link}
-use Rattle.srs_cell.specs.Moves.{AreMoves}
-use Rattle.srs_wit.specs.Spans.{LinksTo, IsCount, pair_from, pairs_from}
+use Rattle.srs_cell.specs.Moves.{LinksTo, AreMoves}
+use Rattle.srs_wit.specs.Spans.{IsCount, pair_from, pairs_from}
 use Rattle.srs_wit.specs.Listing.{AreTooMany}
 use Rattle.srs_wit.specs.Search.{AreFound, Adds, Extends, IsClosedAt}
 use Rattle.srs_wit.proofs.Adding.{extends_none, extends_more, adds_keep}

@@ -1,4 +1,3 @@
-pub mod Touching
 pub mod Mirrored
 pub mod Adding
 pub mod Following

@@ -5,7 +5,7 @@ use Rattle.srs_map.specs.Step.{IsNarrow}
 use Rattle.srs_map.specs.Links.{IsUnit}
 use Rattle.srs_plane.specs.Regions.{Area}
 use Rattle.srs_path.specs.Witnesses.{AreWitnesses}
-use Rattle.srs_wit.specs.Spans.{LinksTo}
+use Rattle.srs_cell.specs.Moves.{LinksTo}
 
 -- different witnesses, at most W, with entries within 2^37
 pub record AreFound (R : Area) (W : ℕ) (ws : List V2) : Type 0 where

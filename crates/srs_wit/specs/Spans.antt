@@ -2,14 +2,7 @@
 use Rattle.std.specs.Prelude.{ℕ, ◌<◌, ◌≤◌, ◌^◌, ℤ, pos, ◌+ℤ◌, ◌≤ℤ◌, ◌<ℤ◌, List, map}
 use Rattle.std.specs.List.{range_with_len}
 use Rattle.srs_num.specs.declared.pairs.V2.{V2}
-use Rattle.srs_num.specs.Points.{Point}
 use Rattle.srs_map.specs.Step.{pair}
-use Rattle.srs_map.specs.Links.{IsLink}
-use Rattle.srs_plane.specs.Regions.{Area, IsIn}
-
--- some point of R links w to v
-abbrev pub LinksTo : Area → V2 → V2 → Type 0
-LinksTo R w v = (r : Point) × IsIn R r × IsLink r w v
 
 -- the n numbers from low on are those up to high
 pub record IsCount (low high : ℤ) (n : ℕ) : Type 0 where

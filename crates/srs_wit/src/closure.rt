@@ -8,7 +8,7 @@ ghost use Rattle.srs_wit.specs.Listing.{AreAllWitnesses, AreTooMany, IsExcess};
 ghost use Rattle.srs_wit.specs.Search.{AreFound, Adds, Extends, IsClosedAt, HasUnits, AreAll};
 
 use crate::sets::{Big, WitErr, WitSet};
-use crate::spans::{count, first_pairs, is_narrow, links, pair_at};
+use crate::spans::{count, first_pairs, is_narrow, pair_at};
 use indexmap::IndexSet;
 use srs_cell::Cell;
 use srs_num::{NoMemory, Pairs, V2};
@@ -104,7 +104,7 @@ impl Search {
         ensures closed { OnOk result (IsClosedAt cell.now self.new.found.keys w) }
         ensures excess { IfErr result (IsExcess cell.now bound) }
     {
-        let span = links(cell, w);
+        let span = cell.links(w);
         let n = count(span);
         if n > bound as u64 {
             return Err(too_many(first_pairs(alloc, w, span, bound as u64 + 1), bound));

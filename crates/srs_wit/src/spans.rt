@@ -2,10 +2,9 @@
 ghost use Rattle.std.specs.Prelude.{◌≡◌, ◌≤◌, ◌<◌, ◌^◌, ◌↔◌, IsTrue, IfOk};
 ghost use Rattle.srs_num.specs.Points.{IsWithin};
 ghost use Rattle.srs_map.specs.Step.{IsNarrow};
-ghost use Rattle.srs_cell.specs.Moves.{AreMoves};
-ghost use Rattle.srs_wit.specs.Spans.{LinksTo, IsCount, pair_from, pairs_from};
+ghost use Rattle.srs_wit.specs.Spans.{IsCount, pair_from, pairs_from};
 
-use srs_cell::{Cell, Span};
+use srs_cell::Span;
 use srs_num::{NoMemory, Pairs, V2};
 use std::alloc::Global;
 
@@ -16,21 +15,6 @@ pub(crate) fn is_narrow(w: V2) -> bool
     ensures { IsTrue result ↔ IsNarrow w }
 {
     -WIDEST <= w.a && w.a <= WIDEST && -WIDEST <= w.b && w.b <= WIDEST
-}
-
-// The second entries of all links of a pair. At each point the second link ends as the first does or one below it, so
-// the two spans of the cell touch.
-pub(crate) fn links(cell: &Cell, w: V2) -> Span
-    requires { IsNarrow w }
-    ensures { AreMoves (LinksTo cell.now) w result.low result.high }
-{
-    let _region = cell.region();
-    let ahead = cell.moves(w);
-    let back = cell.wmoves(w);
-    Span {
-        low: back.low,
-        high: ahead.high,
-    }
 }
 
 // How many numbers a span has.

@@ -1,8 +1,13 @@
-use Rattle.std.proofs.Common.{refl}
-use Rattle.srs_tool.specs.Output.{refused_input}
+use Rattle.std.proofs.Common.{ℕ, List, subst}
+use Rattle.srs_tool.specs.declared.words.Command.TheVariants.{Certify}
+use Rattle.srs_tool.specs.declared.status.Status.TheVariants.{Refused}
+use Rattle.srs_tool.specs.Ends.{Says}
 use Rattle.srs_tool.proofs.Telling.{told_refused}
 use Rattle.srs_tool.proofs.certify.refuse.Goals as goal
 
-pub returns-clause-told : goal.returns-clause-told
-returns-clause-told g c =
-    told_refused c.args.limits.now c.args.input.now refused_input c.say.result _ _ _ _ (record { no_polygon = c.requires; written = refl }) c.say.ensures
+pub returns-in-Ok-clause-told : goal.returns-in-Ok-clause-told
+returns-in-Ok-clause-told g c =
+    let T : List ℕ → Type 0 = λ t. Says Refused c.say.result (g.K.Sink.got c.args.sink.now) (g.K.Sink.got c.say.new.sink) (g.K.Sink.faults c.args.sink.now) (g.K.Sink.faults c.say.new.sink) t in
+    told_refused (Certify c.args.limits.now) c.args.input.now c.in-Ok.text c.say.result _ _ _ _
+    (record { line = c.args.line; slip = c.args.slip; first = c.requires.first; no_polygon = c.requires.none; written = c.in-Ok.ensures })
+    (subst T c.as_slice.ensures c.say.ensures)

@@ -1,7 +1,8 @@
 -- The laws of histories, by induction over their events.
 use Rattle.std.proofs.Common.{refl}
-use Rattle.srs_tree.proofs.OnePlanLemmas.{one_plan}
+use Rattle.srs_tree.proofs.OnePlanLemmas.{one_plan, sound_at}
 use Rattle.srs_tree.proofs.PartitionAll.{IsPartition-legal}
+use Rattle.srs_tree.proofs.PlannedSteps.{outcome_of_event}
 use Rattle.srs_tree.proofs.PlannedWhole.{IsWhole-planned, IsInRounds-planned}
 use Rattle.srs_tree.proofs.StandsLemmas.{Stands-some, Stands-once, Stands-append}
 use Rattle.srs_tree.proofs.QueueLemmas.{queue_open, done}
@@ -10,6 +11,7 @@ use Rattle.srs_tree.proofs.laws.histories.Goals as goal
 pub returns : goal.returns
 returns c = record {
   partition = IsPartition-legal;
+  sound = λ Root W H e legal c. sound_at Root W H legal e.path e.outcome (outcome_of_event Root W H legal e c);
   one_plan = one_plan;
   stands = λ Root W H legal.
       let t = Stands-some Root W H legal in

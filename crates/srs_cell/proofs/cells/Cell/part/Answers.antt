@@ -4,7 +4,7 @@ use Rattle.srs_cell.proofs.cells.Cell.part.Goals as goal
 pub returns-in_default-clause-part : goal.returns-in_default-clause-part
 returns-in_default-clause-part c =
     let k = c.self.inside in
-    rw (← c.self.view_is) (none_beyond k.region k.corners.items k.sample c.args.half c.self.invariant (rw (c.in_default.is, c.deref.ensures.value) at c.in_ok-corners.ensures))
+    rw (← c.self.view_is) (none_beyond k.region k.corners k.sample c.args.half c.self.invariant (rw (c.in_default.is, c.as_slice.ensures) at c.in_ok-corners.ensures))
 
 pub returns-clause-part : goal.returns-clause-part
 returns-clause-part c = rw (← c.self.view_is, ← c.in_ok-region.ensures) c.inhabited.ensures.cell

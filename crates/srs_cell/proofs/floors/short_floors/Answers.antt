@@ -1,0 +1,56 @@
+use Rattle.std.proofs.Common.{FitsSigned, w64, ◌^◌, rules, sym}
+use Rattle.std.specs.List.{Contains}
+use Rattle.std.proofs.lemmas.Int.{to_z-of_z}
+use Rattle.std.proofs.lemmas.List.Elements.{All-contains}
+use Rattle.srs_num.specs.Points.{IsPointWithin}
+use Rattle.srs_cell.specs.Floors.{form_of, AreFloorsOf, AreLessened}
+use Rattle.srs_cell.proofs.FloorsBelow.{corner_ratio, floors_begun, floors_more}
+use Rattle.srs_cell.proofs.floors.short_floors.Goals as goal
+
+pub of-floors-requires-clause-near : goal.of-floors-requires-clause-near
+of-floors-requires-clause-near c =
+    let cs = c.args.corners.now in
+    let among : Contains cs c.index-corners-0.result = search rules in
+    let fn : FitsSigned w64 c.short_value.result = search rules in
+    let fd : FitsSigned w64 c.short_depth.result = search rules in
+    simp to_z-of_z (corner_ratio (2 ^ 20) (2 ^ 38) cs c.args.w _ c.short_value.result c.short_depth.result c.requires.near c.requires.short c.requires.a c.requires.b among c.short_value.ensures c.short_depth.ensures).0
+
+pub loop-corner-init : goal.loop-corner-init
+loop-corner-init c =
+    let cs = c.args.corners.now in
+    let n = c.short_value.result in
+    let d = c.short_depth.result in
+    let among : Contains cs c.index-corners-0.result = search rules in
+    let fn : FitsSigned w64 n = search rules in
+    let fd : FitsSigned w64 d = search rules in
+    let h : AreFloorsOf (2 ^ 23) n d c.of-floors.result = simp to_z-of_z at c.of-floors.ensures in
+    floors_begun (2 ^ 23) (form_of c.args.w) cs _ n d c.of-floors.result among c.short_value.ensures c.short_depth.ensures h
+
+pub short_value-requires-in-loop-corner-clause-corner : goal.short_value-requires-in-loop-corner-clause-corner
+short_value-requires-in-loop-corner-clause-corner c =
+    All-contains (IsPointWithin (2 ^ 38)) c.args.corners.now c.corner-item.result c.requires.short (c.loop-corner.corner-index, c.loop-corner-test.true, sym c.corner-item.is)
+
+pub short_depth-requires-in-loop-corner : goal.short_depth-requires-in-loop-corner
+short_depth-requires-in-loop-corner c =
+    All-contains (IsPointWithin (2 ^ 38)) c.args.corners.now c.corner-item.result c.requires.short (c.loop-corner.corner-index, c.loop-corner-test.true, sym c.corner-item.is)
+
+pub lessened-floors-requires-clause-near : goal.lessened-floors-requires-clause-near
+lessened-floors-requires-clause-near c =
+    let cs = c.args.corners.now in
+    let n = c.short_value-in-loop-corner.result in
+    let d = c.short_depth-in-loop-corner.result in
+    let among : Contains cs c.corner-item.result = (c.loop-corner.corner-index, c.loop-corner-test.true, sym c.corner-item.is) in
+    let fn : FitsSigned w64 n = search rules in
+    let fd : FitsSigned w64 d = search rules in
+    simp to_z-of_z (corner_ratio (2 ^ 20) (2 ^ 38) cs c.args.w _ n d c.requires.near c.requires.short c.requires.a c.requires.b among c.short_value-in-loop-corner.ensures c.short_depth-in-loop-corner.ensures).0
+
+pub loop-corner-preserved : goal.loop-corner-preserved
+loop-corner-preserved c =
+    let cs = c.args.corners.now in
+    let n = c.short_value-in-loop-corner.result in
+    let d = c.short_depth-in-loop-corner.result in
+    let fn : FitsSigned w64 n = search rules in
+    let fd : FitsSigned w64 d = search rules in
+    let l : AreLessened (2 ^ 23) n d c.loop-corner.floors c.lessened-floors.result = simp to_z-of_z at c.lessened-floors.ensures in
+    floors_more (2 ^ 23) (form_of c.args.w) cs (2 ^ 38) c.requires.short c.loop-corner.corner-index _ c.loop-corner-test.true c.corner-item.is
+    n d c.loop-corner.floors c.lessened-floors.result c.short_value-in-loop-corner.ensures c.short_depth-in-loop-corner.ensures c.loop-corner.invariant l

@@ -1,0 +1,40 @@
+-- The certificate of a refined polygon.
+use Rattle.std.proofs.Common.{◌≡◌, ℕ, ◌≤◌, List, length, ap, subst, ◌∙◌, arith}
+use Rattle.std.proofs.lemmas.List.FromFn.{length-map-range_with_len}
+use Rattle.srs_plane.specs.declared.polygons.Vertex.{Vertex}
+use Rattle.srs_plane.specs.declared.halves.Half.{Half}
+use Rattle.srs_plane.specs.Polygons.{vertex_at, edge_at, IsCounted, region_of}
+use Rattle.srs_plane.specs.Regions.{Area, HasPoint}
+use Rattle.srs_path.specs.Views.{Budget}
+use Rattle.srs_tree.specs.Snapshots.{Snapshot}
+use Rattle.srs_tree.specs.Preorder.{preorder_of}
+use Rattle.srs_tree.proofs.OnePlanLemmas.{sound_at}
+use Rattle.srs_tree.proofs.PartitionAll.{IsPartition-legal}
+use Rattle.srs_tree.proofs.PlannedSteps.{outcome_of_event}
+use Rattle.srs_file.specs.Certificates.{cert_text}
+use Rattle.srs_tool.specs.Output.{IsCertificateOf}
+use Rattle.srs_tool.specs.Refined.{IsRefined}
+
+-- a polygon has as many halves as vertices
+pub few_halves : (vs : List Vertex) (R : Area) → IsCounted vs → R ≡ region_of vs → length R ≤ 16
+few_halves vs R counted is =
+    let side : ℕ → Half = λ i. record { form = edge_at vs i; kind = (vertex_at vs i).kind } in
+    let e : length R ≡ length vs = ap length is ∙ length-map-range_with_len side 0 (length vs) in
+    omega (arith, e, counted.1)
+
+refined_text : (vs : List Vertex) (b : Budget) (v : Snapshot) (text : List ℕ) → HasPoint (region_of vs) → IsRefined (region_of vs) b v
+    → text ≡ cert_text (record { vertices = vs; limits = b; events = preorder_of v }) → IsCertificateOf vs b text
+refined_text vs b v text point refined written = record {
+  history = refined.history;
+  decides = record {
+    plan = refined.plan;
+    partition = IsPartition-legal (region_of vs) b.wits refined.history point refined.plan.whole.legal;
+    sound = λ e c. sound_at (region_of vs) b.wits refined.history refined.plan.whole.legal e.path e.outcome (outcome_of_event (region_of vs) b.wits refined.history refined.plan.whole.legal e c);
+  };
+  written = record { snapshot = v; stands = refined.stands; written = written };
+}
+
+pub certificate_of : (vs : List Vertex) (b : Budget) (R : Area) (v : Snapshot) (text : List ℕ) → R ≡ region_of vs → HasPoint R → IsRefined R b v
+    → text ≡ cert_text (record { vertices = vs; limits = b; events = preorder_of v }) → IsCertificateOf vs b text
+certificate_of vs b R v text is point refined written =
+    refined_text vs b v text (subst HasPoint is point) (subst (λ (S : Area). IsRefined S b v) is refined) written

@@ -1,0 +1,82 @@
+-- A good run ends with Done, or for want of memory.
+use Rattle.std.proofs.Common.{◌≡◌, ◌≢◌, ◌⊎◌, inl, inr, ℕ, ◌≤◌, List, [], ◌∷◌, ◌++◌, length, length-append, append-nil, Option, Some, None, refl, sym, ap, subst, ◌∙◌, arith}
+use Rattle.std.specs.Io.KnownBytes.{Consumes, IsAtEnd}
+use Rattle.std.proofs.lemmas.Option.{none-some, same_Some}
+use Rattle.std.proofs.Common.{pos, ◌+◌}
+use Rattle.srs_text.specs.Spelling.{IsNumber}
+use Rattle.srs_text.specs.Ends.{Rose}
+use Rattle.srs_path.specs.Views.{Budget}
+use Rattle.srs_tool.specs.declared.words.Command.{Command}
+use Rattle.srs_tool.specs.declared.words.Command.TheVariants.{Certify}
+use Rattle.srs_tool.specs.declared.status.Status.{Status}
+use Rattle.srs_tool.specs.declared.status.Status.TheVariants.{Done, Bad, Usage, NoMemory, ReadFault, WriteFault, Refused, TooLong}
+use Rattle.srs_tool.specs.Words.{AsksCertify, Asks, longest_input}
+use Rattle.srs_tool.specs.Output.{Owes, IsInputOf}
+use Rattle.srs_tool.specs.Ends.{Completes, Overruns, IsGoodRun}
+use Rattle.srs_tool.proofs.WordLemmas.{same_count}
+
+last_three : (x y d e c f w v : List ℕ) → ◌≡◌ {A = List (List ℕ)} (x ∷ d ∷ c ∷ w ∷ []) (y ∷ e ∷ f ∷ v ∷ []) → (d ≡ e) × (c ≡ f) × (w ≡ v)
+last_three x y d e c f w v same = (cc, cc, cc)
+
+same_fields : (d c w e f v : ℕ) → d ≡ e → c ≡ f → w ≡ v → ◌≡◌ {A = Budget} (record { depth = d; cells = c; wits = w }) (record { depth = e; cells = f; wits = v })
+same_fields d c w e f v p q r = rw (p, q, r) refl
+
+same_limits : (words : List (List ℕ)) (a b : Budget) → AsksCertify words a → AsksCertify words b → a ≡ b
+same_limits words a b h k =
+    let t = last_three _ _ h.depth k.depth h.cells k.cells h.wits k.wits (sym h.split ∙ k.split) in
+    same_fields a.depth a.cells a.wits b.depth b.cells b.wits
+    (same_count k.depth a.depth b.depth (subst (λ x. IsNumber x (pos a.depth)) t.0 h.limits.depth_is) k.limits.depth_is)
+    (same_count k.cells a.cells b.cells (subst (λ x. IsNumber x (pos a.cells)) t.1 h.limits.cells_is) k.limits.cells_is)
+    (same_count k.wits a.wits b.wits (subst (λ x. IsNumber x (pos a.wits)) t.2 h.limits.wits_is) k.limits.wits_is)
+
+-- words ask for one command
+same_command : (words : List (List ℕ)) (c d : Command) → Asks words c → Asks words d → c ≡ d
+same_command words (Certify a) (Certify b) h k = ap Certify (same_limits words a b h k)
+
+-- what was read to the end is what was there
+same_input : (left left_after : Option (List ℕ)) (input bytes : List ℕ) → left ≡ Some input → Consumes left left_after bytes → IsAtEnd left_after → bytes ≡ input
+same_input None left_after input bytes held taken end = absurd (none-some input held)
+same_input (Some xs) None input bytes held taken end = absurd taken
+same_input (Some xs) (Some ys) input bytes held taken end =
+    sym (append-nil bytes) ∙ ap (λ (zs : List ℕ). bytes ++ zs) (sym end) ∙ sym taken ∙ same_Some held
+
+-- no more is taken than was there
+took_within : (left left_after : Option (List ℕ)) (input bytes : List ℕ) → left ≡ Some input → Consumes left left_after bytes → length bytes ≤ length input
+took_within None left_after input bytes held taken = absurd (none-some input held)
+took_within (Some xs) None input bytes held taken = absurd taken
+took_within (Some xs) (Some ys) input bytes held taken =
+    let e : length input ≡ length bytes + length ys = ap length (sym (same_Some held) ∙ taken) ∙ length-append bytes ys in omega (arith, e)
+
+-- a good input isn't refused
+not_refused : (command : Command) (input output : List ℕ) → Owes command input Refused output → IsInputOf command input → ⊥
+not_refused (Certify limits) input output owed good = owed.no_polygon good.0 good.1
+
+module _ (words : List (List ℕ)) (left left_after got got_after : Option (List ℕ)) (good : IsGoodRun words left) where
+  refusal_fails : Completes words Refused left left_after got got_after → ⊥
+  refusal_fails done =
+      let c : done.command ≡ good.command = same_command words done.command good.command done.asked good.asked in
+      let i : done.answer.input ≡ good.input = same_input left left_after good.input done.answer.input good.held done.answer.read.taken done.answer.read.end in
+      not_refused done.command done.answer.input done.answer.answer.output done.answer.answer.owed
+      (subst (λ (x : List ℕ). IsInputOf done.command x) (sym i) (subst (λ (d : Command). IsInputOf d good.input) (sym c) good.good))
+
+  overrun_fails : Overruns words left left_after → ⊥
+  overrun_fails over =
+      let c : over.command ≡ good.command = same_command words over.command good.command over.asked good.asked in
+      let l : longest_input over.command ≡ longest_input good.command = ap longest_input c in
+      let t = over.overlong in
+      absurd (omega (arith, took_within left left_after good.input t.0 good.held t.1, t.2, good.short, l))
+
+  pub completes : (result : Status) (read read_after write write_after : ℕ)
+      → (result ≡ Usage → (command : Command) → Asks words command → ⊥)
+      → (result ≡ Refused → Completes words Refused left left_after got got_after)
+      → (result ≡ ReadFault → Rose read read_after) → (result ≡ WriteFault → Rose write write_after)
+      → (result ≡ TooLong → Overruns words left left_after) → result ≢ Bad
+      → ¬ (Rose read read_after) → ¬ (Rose write write_after) → (result ≡ Done) ⊎ (result ≡ NoMemory)
+  completes Done r s w v usage refused reads writes long bad no_read no_write = inl refl
+  completes Bad r s w v usage refused reads writes long bad no_read no_write = absurd (bad refl)
+  completes Usage r s w v usage refused reads writes long bad no_read no_write = absurd (usage refl good.command good.asked)
+  completes NoMemory r s w v usage refused reads writes long bad no_read no_write = inr refl
+  completes ReadFault r s w v usage refused reads writes long bad no_read no_write = absurd (no_read (reads refl))
+  completes WriteFault r s w v usage refused reads writes long bad no_read no_write = absurd (no_write (writes refl))
+  completes Refused r s w v usage refused reads writes long bad no_read no_write = absurd (refusal_fails (refused refl))
+  completes TooLong r s w v usage refused reads writes long bad no_read no_write = absurd (overrun_fails (long refl))

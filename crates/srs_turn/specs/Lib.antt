@@ -1,0 +1,4 @@
+pub mod Prefixes
+pub mod Passes
+pub mod TurnWords
+pub mod Holding

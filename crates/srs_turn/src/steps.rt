@@ -1,0 +1,69 @@
+// How a seat gets the book of its turn, and how it gives the book back.
+ghost use Rattle.std.specs.Prelude.{◌∷◌, ◌≡◌, [], length, Some};
+ghost use Rattle.srs_turn.specs.Prefixes.{Begins, AddsAtMostOne};
+ghost use Rattle.srs_turn.specs.TurnWords.{told_in};
+ghost use Rattle.srs_turn.specs.Holding.{WaitsFor, HoldsWithBookOut, Holds, seen_by};
+
+use crate::told::Told;
+use crate::turn::Turn;
+use crate::view::{Freeing, Growing, View, Winning};
+use atomic_table::Seat;
+use std::sync::Wait;
+
+// A seat of a turn round a `B`. While it holds the turn it is no pass, so these steps are on seats.
+type SeatOf<B> = Seat<Option<B>, View<<B as Told>::Entry, <B as Told>::Fixed>>;
+
+impl<B: Told> Turn<B> {
+    // Waits for the turn, and takes the book out of the slot.
+    pub(crate) fn take<R: Wait>(&self, rt: &R, seat: &mut SeatOf<B>) -> B
+        requires { WaitsFor self.now seat.old }
+        ensures held { HoldsWithBookOut self.now seat.new }
+        ensures book { (B.told result ≡ seen_by seat.new) × (B.fixed result ≡ self.now.fixed) }
+        ensures seen { Begins (seen_by seat.old) (seen_by seat.new) }
+    {
+        let shared = &self.table.shared;
+        for _ in rt.forever() {
+            let found = shared.compare_exchange::<Winning<B>>(seat, 0, 0, 1);
+            if found == 0 {
+                let Some(book) = shared.exchange(seat, 0, None) else {
+                    unreachable!()
+                };
+                return book;
+            }
+            shared.park(rt, 0, 1);
+        }
+        unreachable!()
+    }
+
+    // Puts the book back, whose list had `was` entries, and gives up the turn. The book is in its slot before its
+    // length is stored: only the list of a book in a slot can be what a step tells.
+    pub(crate) fn give(&self, seat: &mut SeatOf<B>, book: B, was: u64)
+        requires held { HoldsWithBookOut self.now seat.old }
+        requires was { was ≡ length (seen_by seat.old) }
+        requires grown { AddsAtMostOne (seen_by seat.old) (B.told book) }
+        requires fixed { B.fixed book ≡ self.now.fixed }
+        ensures free { WaitsFor self.now seat.new }
+        ensures seen { seen_by seat.new ≡ B.told book }
+    {
+        let shared = &self.table.shared;
+        let count = book.count();
+        let empty = shared.exchange(seat, 0, Some(book));
+        let None = empty else { unreachable!() };
+        self.store_count(seat, was, count);
+        shared.store::<Freeing>(seat, 0, 0);
+        shared.wake_one(0);
+    }
+
+    // Counts the new entry, if the book in the slot has one.
+    fn store_count(&self, seat: &mut SeatOf<B>, was: u64, count: u64)
+        requires held { Holds self.now seat.old }
+        requires grown { (book : B) × (seat.old.me.1 ≡ (0, Some book) ∷ []) × AddsAtMostOne (seen_by seat.old) (B.told book) × (count ≡ length (B.told book)) }
+        requires was { was ≡ length (seen_by seat.old) }
+        ensures held { Holds self.now seat.new × (seat.new.me.1 ≡ seat.old.me.1) }
+        ensures seen { seen_by seat.new ≡ told_in B.told seat.old.me.1 }
+    {
+        if count != was {
+            self.table.shared.store::<Growing<B>>(seat, 1, count);
+        }
+    }
+}
