@@ -18,7 +18,7 @@ use Rattle.srs_tree.specs.Tree.{History, Tree, outcome_at, IsCellOf, region_at}
 use Rattle.srs_tree.specs.Rounds.{parts_by, upto, row_of, last_in, IsByPlan, IsWhole}
 use Rattle.srs_tree.specs.Snapshots.{Entries, Snapshot, tree_of, StandsFor}
 use Rattle.srs_tree.specs.Preorder.{event_of, preorder_of, preorder_below}
-use Rattle.srs_tree.specs.WholeTrees.{ListsTrees, ListsWholeTree, IsAllowed, KeepsTo, IsWithin, WholeIsBounded, WholeIsListed}
+use Rattle.srs_tree.specs.WholeTrees.{ListsTrees, ListsWholeTree, AllowsAt, KeepsTo, IsWithin, WholeIsBounded, WholeIsListed}
 use Rattle.srs_tree.proofs.TreeLemmas.{cell_of_outcome}
 use Rattle.srs_tree.proofs.OnePlanLemmas.{has_event}
 use Rattle.srs_tree.proofs.PlannedWhole.{some_is}
@@ -76,7 +76,7 @@ module _ (Root : Area) (b : Budget) (H : History) (v : Snapshot) (budget : IsBud
   same = λ i. λ p. stands.entries p i
 
   -- an event of a whole history keeps to the limits
-  keeps : (p : List Side) (o : Outcome) → outcome_at H p ≡ Some o → IsAllowed b p o
+  keeps : (p : List Side) (o : Outcome) → outcome_at H p ≡ Some o → AllowsAt b (length p) o
   keeps p o e = by_plan o e (whole.each_event (record { path = p; outcome = o }) (has_event H p o e))
     where
       short : (u : Outcome) → outcome_at H p ≡ Some u → last_in b H (length p) ≡ None → length p < b.depth
@@ -85,14 +85,14 @@ module _ (Root : Area) (b : Budget) (H : History) (v : Snapshot) (budget : IsBud
           let no : b.depth ≤ length p → ⊥ = λ q. last_at_depth b (length p) (upto H (length p)) (row_of H (length p)) (omega (arith, l, q)) n in
           omega (arith, no)
 
-      by_refined : (u : Outcome) → outcome_at H p ≡ Some u → Refines (region_at Root (outcome_at H) p) (last_in b H (length p)) b.wits u → IsAllowed b p u
+      by_refined : (u : Outcome) → outcome_at H p ≡ Some u → Refines (region_at Root (outcome_at H) p) (last_in b H (length p)) b.wits u → AllowsAt b (length p) u
       by_refined (Inside ranks) f r = few_ranks _ b.wits ranks r
       by_refined (Outside cycle) f r = few_cycle _ b.wits cycle r
       by_refined (Cut h) f r = short (Cut h) f r.0
       by_refined (Left cause) f r = tt
 
-      by_plan : (u : Outcome) → outcome_at H p ≡ Some u → IsByPlan Root b H (record { path = p; outcome = u }) → IsAllowed b p u
-      by_plan u f (inl q) = subst (IsAllowed b p) (sym q) tt
+      by_plan : (u : Outcome) → outcome_at H p ≡ Some u → IsByPlan Root b H (record { path = p; outcome = u }) → AllowsAt b (length p) u
+      by_plan u f (inl q) = subst (AllowsAt b (length p)) (sym q) tt
       by_plan u f (inr r) = by_refined u f r
 
   abbrev pairs : List Pair
