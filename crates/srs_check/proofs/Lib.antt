@@ -9,3 +9,5 @@ pub mod Cuts
 pub mod NodeCounts
 pub mod WalkStates
 pub mod Excluded
+pub mod WholeCounts
+pub mod WholeProved

@@ -5,3 +5,4 @@ pub mod Proving
 pub mod Faults
 pub mod Tested
 pub mod Certified
+pub mod Whole

@@ -4,6 +4,7 @@
 
 mod checks;
 mod faults;
+mod laws;
 mod listed;
 mod nodes;
 mod places;
@@ -11,4 +12,5 @@ mod rows;
 mod waiting;
 
 pub use checks::check;
+pub use laws::whole_certificates;
 pub use faults::{Checked, Counts, Fault};
