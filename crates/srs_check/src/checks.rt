@@ -1,9 +1,10 @@
 // The check of a certificate.
-ghost use Rattle.std.specs.Prelude.{◌≡◌, IfOk, IfNone, MatchOption};
+ghost use Rattle.std.specs.Prelude.{◌≡◌, IfOk, IsNone, IfNone, MatchOption};
 ghost use Rattle.srs_plane.specs.Polygons.{region_of};
 ghost use Rattle.srs_check.specs.Proving.{IsProved};
 ghost use Rattle.srs_check.specs.Faults.{counts_of, IsChecked, IsFaultOf};
 ghost use Rattle.srs_check.specs.Certified.{IsCertified, Certifies};
+ghost use Rattle.srs_check.specs.Whole.{IsOfWhole, IsValid};
 
 use crate::nodes::{Tested, test_node};
 use crate::rows::{node_count, rows_of};
@@ -18,11 +19,12 @@ use std::alloc::Global;
 
 /// Tests each node in preorder. `Valid` exactly where each proves itself; then the leaves partition the polygon, each cut
 /// divides its cell, and each leaf inside or outside is sound. `Bad` has the line and the fault of the first node that
-/// doesn't. Of a node that is left it says that the budget is spent or that there is no grid line, and nothing of why its
-/// cell stays open. An `Err` is want of memory.
+/// doesn't; it doesn't come where the events are those of a whole history. Of a node that is left it says that the budget
+/// is spent or that there is no grid line, and nothing of why its cell stays open. An `Err` is want of memory.
 pub fn check(alloc: Global, c: &Cert) -> Result<Checked, NoMemory>
     ensures checked { IfOk result (IsChecked c.now) }
     ensures certified { IfOk result (Certifies c.now) }
+    ensures whole { IsOfWhole c.now → IfOk result IsValid }
 {
     let root = root_of(alloc, c)?;
     match first_fault(alloc, c, root)? {
@@ -53,6 +55,7 @@ fn first_fault(alloc: Global, c: &Cert, root: Cell) -> Result<Option<(u32, Fault
     requires { root ≡ region_of c.now.vertices }
     ensures fault { IfOk result (λ found. MatchOption found (IsProved c.now) (λ f. IsFaultOf c.now f.0 f.1)) }
     ensures certified { IfOk result (λ found. IfNone found (IsCertified c.now)) }
+    ensures whole { IsOfWhole c.now → IfOk result IsNone }
 {
     let rows = rows_of(c);
     let mut waiting = Waiting::of(alloc, root);

@@ -1,5 +1,6 @@
 // The numbers of nodes by their depth.
 ghost use Rattle.std.specs.Prelude.{◌≡◌, ◌≤◌, length, IsTrue, ◌↔◌};
+ghost use Rattle.srs_path.specs.Views.{IsBudget};
 ghost use Rattle.srs_file.specs.Certificates.{IsCertificate};
 ghost use Rattle.srs_check.specs.Budgets.{SpendsCells, CountsRows};
 
@@ -13,6 +14,7 @@ pub(crate) fn node_count(c: &Cert) -> u32
     ensures count { result ≡ length c.now.events }
     ensures few { result ≤ 65536 }
     ensures certificate { IsCertificate c.now }
+    ensures budget { IsBudget c.now.limits }
 {
     // There are at most as many as the limits allow.
     let _ = c.limits().cells();

@@ -1,5 +1,7 @@
 use Rattle.std.proofs.Common.{◌≡◌, ◌+◌, [], ◌∷◌, List, refl, sym, ap, subst, ◌∙◌, arith}
 use Rattle.srs_plane.specs.Regions.{Area}
+use Rattle.srs_check.proofs.Excluded.{not_proved}
+use Rattle.srs_check.proofs.WholeProved.{whole_proved}
 use Rattle.srs_check.proofs.WalkStates.{WalkState, walk_first, some_cell, few_here, after_leaf, after_cut, after_fault, walk_proves, walk_certifies}
 use Rattle.srs_check.proofs.checks.first_fault.Goals as goal
 use Rattle.srs_check.proofs.checks.first_fault.Goals.{in-Leaf, in-Divided+in_ok-divide-in-Divided}
@@ -18,6 +20,13 @@ pub returns-in-Wrong-clause-fault : goal.returns-in-Wrong-clause-fault
 returns-in-Wrong-clause-fault c =
     after_fault c.args.c.now c.loop-i.i (omega arith) c.in-Some.cell c.take.new.self (subst (WalkState c.args.c.now c.loop-i.i) c.in-Some.ensures c.loop-i.invariant)
     c.in_ok-test_node.field-0 c.in_ok-test_node.ensures c.in-Wrong.fault c.in-Wrong.is
+
+pub returns-in-Wrong-clause-whole : goal.returns-in-Wrong-clause-whole
+returns-in-Wrong-clause-whole c w =
+    absurd (not_proved c.args.c.now c.loop-i.i c.in-Wrong.fault
+    (after_fault c.args.c.now c.loop-i.i (omega arith) c.in-Some.cell c.take.new.self (subst (WalkState c.args.c.now c.loop-i.i) c.in-Some.ensures c.loop-i.invariant)
+    c.in_ok-test_node.field-0 c.in_ok-test_node.ensures c.in-Wrong.fault c.in-Wrong.is)
+    (whole_proved c.args.c.now c.node_count-i-end.ensures.budget w))
 
 pub loop-i-preserved : goal.loop-i-preserved
 loop-i-preserved c =
