@@ -1,7 +1,7 @@
 -- The leaves of a whole tree whose cuts all divide their cells partition its root region.
-use Rattle.std.proofs.Common.{◌≡◌, ◌≢◌, inl, inr, ℕ, zero, suc, ◌+◌, ◌<◌, ◌≤◌, Bool, true, false, cond, List, [], ◌∷◌, ◌++◌, map, length, take, drop, get_or, slice_get, refl, sym, ap, ap₂, subst, ◌∙◌, arith, take-append-drop}
+use Rattle.std.proofs.Common.{◌≡◌, inl, inr, ℕ, zero, suc, ◌+◌, ◌≤◌, true, false, cond, List, [], ◌∷◌, ◌++◌, map, length, take, drop, get_or, slice_get, refl, sym, ap, ap₂, subst, ◌∙◌, arith, take-append-drop}
 use Rattle.std.specs.Prelude.{Contains}
-use Rattle.std.proofs.lemmas.Option.{none-some, same_Some, slice_get_within, slice_get-get_or, get_or_from_slice_get}
+use Rattle.std.proofs.lemmas.Option.{same_Some, slice_get-get_or}
 use Rattle.std.proofs.lemmas.List.{take_more, take_all, map-append}
 use Rattle.std.specs.declared.option.Option.{Option}
 use Rattle.std.specs.declared.option.Option.TheVariants.{Some, None}
@@ -135,7 +135,7 @@ module _ (Root : Area) (H : History) (tree : ListsWholeTree H) (divides : (i : �
       let old = legal_upto i (omega arith) in
       let q : i + 1 ≡ suc i = omega arith in
       let more : cuts_of (take (suc i) H) ≡ cuts_of (take i H) ++ cut_event e ∷ [] =
-          ap (λ (n : ℕ). cuts_of (take n H)) (sym q) ∙ ap cuts_of (take_more H i d (omega arith)) ∙ map-append cut_event (take i H) (e ∷ []) in
+      ap (λ (n : ℕ). cuts_of (take n H)) (sym q) ∙ ap cuts_of (take_more H i d (omega arith)) ∙ map-append cut_event (take i H) (e ∷ []) in
       subst (IsLegal Root 0) (sym more) (IsLegal-append Root 0 (cuts_of (take i H)) (cut_event e) old (may_follow i old e t.rest at t.is_open))
 
   pub partition : HasPoint Root → IsPartition Root (outcome_at H)

@@ -1,5 +1,5 @@
 -- What the walks along the links of a listed pair show.
-use Rattle.std.proofs.Common.{◌≡◌, ◌≢◌, inl, inr, ℕ, zero, suc, ◌+◌, ◌<◌, ◌≤◌, List, length, get_or, slice_get, Some, ℤ, pos, negsuc, ◌+ℤ◌, refl, sym, ap, subst, ◌∙◌, arith}
+use Rattle.std.proofs.Common.{◌≡◌, ◌≢◌, inl, inr, ℕ, ◌+◌, ◌<◌, ◌≤◌, length, get_or, slice_get, Some, ℤ, pos, negsuc, refl, sym, ap, subst, ◌∙◌, arith}
 use Rattle.std.specs.Prelude.{Contains}
 use Rattle.std.proofs.Math.Decide.{dec_lt}
 use Rattle.std.proofs.lemmas.Int.{ints}
@@ -12,10 +12,10 @@ use Rattle.srs_plane.specs.Regions.{Area}
 use Rattle.srs_cell.specs.Moves.{LeadsTo, LeadsBackTo, AreMoves}
 use Rattle.srs_path.specs.Core.{Precedes}
 use Rattle.srs_path.specs.Lists.{IsRankList}
-use Rattle.srs_check.specs.Listed.{RankList, IsListed, IsBelow, IsClosedAt, ListsUnits, ProvesInside, IsFirstOpen, IsFirstUnit, IsFaultAt, IsInsideFault, IsNextAhead, IsFirstMissing}
+use Rattle.srs_check.specs.Listed.{RankList, IsListed, IsBelow, IsClosedAt, ListsUnits, ProvesInside, IsFirstUnit, IsFaultAt, IsInsideFault, IsNextAhead, IsFirstMissing}
 use Rattle.srs_check.specs.Places.{IsCount, pair_from}
 use Rattle.srs_check.specs.declared.faults.Fault.{Fault}
-use Rattle.srs_check.specs.declared.faults.Fault.TheVariants.{NoUnit, NotClosed, NoFall, NotCycle, NotProper, NoBudget}
+use Rattle.srs_check.specs.declared.faults.Fault.TheVariants.{NotClosed, NoFall}
 use Rattle.srs_check.proofs.PlaceLemmas.{one_rank, by_place, from_place}
 use Rattle.srs_check.proofs.Spans.{Walked, walked_before, leads_here, ahead_begins, back_begins}
 
@@ -45,20 +45,28 @@ module _ (R : Area) (entries : RankList) (w : V2) (rank : ℕ) (low high : ℤ) 
   missing_ahead m fault e = subst (IsFaultAt R entries (w, rank)) (sym e) (refl, inl (record { next = next; missing = λ h. m (subst (IsListed entries) (there w v low k is) h) }))
 
   pub no_fall : w ≢ origin → (m : ℕ) → Contains entries (v, m) → rank ≤ m → (fault : Fault) → fault ≡ NoFall w v.b → IsFaultAt R entries (w, rank) fault
-  no_fall z m c higher fault e = subst (IsFaultAt R entries (w, rank)) (sym e) (refl, next, record {
-    not_zero = z;
-    rank = m;
-    is = subst (λ (x : V2). Contains entries (x, m)) (sym (there w v low k is)) c;
-    not_lower = higher;
-  })
+  no_fall z m c higher fault e = subst (IsFaultAt R entries (w, rank)) (sym e) (
+    refl,
+    next,
+    record {
+      not_zero = z;
+      rank = m;
+      is = subst (λ (x : V2). Contains entries (x, m)) (sym (there w v low k is)) c;
+      not_lower = higher;
+    },
+  )
 
 module _ (R : Area) (entries : RankList) (w : V2) (low high : ℤ) (n : ℕ) (moves : AreMoves (LeadsBackTo R) w low high) (count : IsCount low high n) (k place : ℕ) (s : Walked entries (IsListed entries) w low k place) (l : k < n) (v : V2) (is : v ≡ pair_from w low k) where
   pub missing_back : (IsListed entries v → ⊥) → (fault : Fault) → fault ≡ NotClosed w v.b → (j : ℤ) × (fault ≡ NotClosed w j) × IsFirstMissing R entries w j
-  missing_back m fault e = (v.b, e, subst (IsFirstMissing R entries w) (sym (ap (λ (x : V2). x.b) is)) (record {
-    leads = leads_here entries (LeadsBackTo R) (IsListed entries) w low high n (back_begins R w) moves count k place s l;
-    missing = λ h. m (subst (IsListed entries) (sym is) h);
-    before = λ i b f. walked_before entries (LeadsBackTo R) (IsListed entries) w low high n (back_begins R w) moves count k place s i b f;
-  }))
+  missing_back m fault e = (
+    v.b,
+    e,
+    subst (IsFirstMissing R entries w) (sym (ap (λ (x : V2). x.b) is)) (record {
+      leads = leads_here entries (LeadsBackTo R) (IsListed entries) w low high n (back_begins R w) moves count k place s l;
+      missing = λ h. m (subst (IsListed entries) (sym is) h);
+      before = λ i b f. walked_before entries (LeadsBackTo R) (IsListed entries) w low high n (back_begins R w) moves count k place s i b f;
+    }),
+  )
 
 -- the first fault of the mirrored steps, where the steps lead below
 pub fault_back : (R : Area) (entries : RankList) (e : V2 × ℕ) → ((v : V2) → LeadsTo R e.0 v → IsBelow entries e v) → (fault : Fault) → (j : ℤ) × (fault ≡ NotClosed e.0 j) × IsFirstMissing R entries e.0 j → IsFaultAt R entries e fault

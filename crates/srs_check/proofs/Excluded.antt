@@ -1,21 +1,21 @@
 -- A node with a fault doesn't prove itself.
-use Rattle.std.proofs.Common.{◌≡◌, ◌≢◌, ◌⊎◌, inl, inr, ℕ, ◌<◌, ◌≤◌, List, length, slice_get, Some, ℤ, pos, ◌≤ℤ◌, ◌<ℤ◌, refl, sym, ap, subst, ◌∙◌, arith}
+use Rattle.std.proofs.Common.{◌≡◌, inl, inr, ℕ, List, length, ℤ, pos, ◌≤ℤ◌, ◌<ℤ◌, arith}
 use Rattle.std.proofs.lemmas.Int.{ints}
 use Rattle.srs_num.specs.declared.pairs.V2.{V2}
-use Rattle.srs_num.specs.Points.{Point, value}
+use Rattle.srs_num.specs.Points.{value}
 use Rattle.srs_map.specs.Step.{pair}
-use Rattle.srs_plane.specs.Regions.{Area, IsIn}
+use Rattle.srs_plane.specs.Regions.{Area}
 use Rattle.srs_path.specs.declared.outcomes.Cause.TheVariants.{Depth, Cells, Thin, Memory}
 use Rattle.srs_path.specs.declared.outcomes.Outcome.{Outcome}
 use Rattle.srs_path.specs.declared.outcomes.Outcome.TheVariants.{Inside, Outside, Cut, Left}
 use Rattle.srs_path.specs.Cutout.{Covers, lower_form, upper_form}
-use Rattle.srs_path.specs.Views.{Budget, Entry}
+use Rattle.srs_path.specs.Views.{Budget}
 use Rattle.srs_cut.specs.Judgement.{IsFirstBreak}
 use Rattle.srs_tree.specs.Tree.{History}
 use Rattle.srs_file.specs.Certificates.{CertView, line_of_node}
 use Rattle.srs_check.specs.declared.faults.Fault.{Fault}
 use Rattle.srs_check.specs.declared.faults.Fault.TheVariants.{NoUnit, NotClosed, NoFall, NotCycle, NotProper, NoBudget}
-use Rattle.srs_check.specs.Listed.{RankList, IsListed, IsBelow, IsClosedAt, ProvesInside, IsFaultAt, IsInsideFault, IsMissingAhead, IsMissingBack}
+use Rattle.srs_check.specs.Listed.{RankList, IsClosedAt, ProvesInside, IsFaultAt, IsInsideFault}
 use Rattle.srs_check.specs.Proving.{Proves, IsProved}
 use Rattle.srs_check.specs.Faults.{Fails, IsFaultOf, IsFirstFault}
 use Rattle.srs_check.proofs.PlaceLemmas.{from_place}

@@ -1,14 +1,13 @@
 -- The events of a whole tree, taken one by one: each is that of the next path that waits, a cell without an event.
-use Rattle.std.proofs.Common.{◌≡◌, ◌≢◌, inl, inr, ℕ, zero, suc, ◌+◌, ◌<◌, ◌≤◌, Bool, true, false, cond, List, [], ◌∷◌, ◌++◌, length, length-append, take, drop, get_or, slice_get, refl, sym, ap, subst, ◌∙◌, arith, take-append-drop}
+use Rattle.std.proofs.Common.{◌≡◌, ◌≢◌, inl, inr, ℕ, zero, suc, ◌+◌, ◌≤◌, Bool, cond, List, [], ◌∷◌, ◌++◌, length, length-append, take, drop, get_or, slice_get, refl, sym, ap, subst, ◌∙◌, arith, take-append-drop}
 use Rattle.std.specs.Prelude.{Contains}
 use Rattle.std.specs.List.{AllPairs, All}
 use Rattle.std.proofs.lemmas.Option.{none-some, slice_get_within, get_or_from_slice_get, slice_get-get_or}
 use Rattle.std.proofs.lemmas.List.{take_more, drop_more, append_cancel_left}
-use Rattle.std.proofs.lemmas.List.Elements.{Contains-append_cases, Contains-append_right, Contains-get_or}
+use Rattle.std.proofs.lemmas.List.Elements.{Contains-append_cases, Contains-get_or}
 use Rattle.std.proofs.lemmas.List.Kept.{AllPairs-cons}
 use Rattle.std.specs.declared.option.Option.{Option}
 use Rattle.std.specs.declared.option.Option.TheVariants.{Some, None}
-use Rattle.srs_num.specs.Points.{LinearForm}
 use Rattle.srs_path.specs.declared.paths.Side.{Side}
 use Rattle.srs_path.specs.declared.paths.Side.TheVariants.{Ge, Lt}
 use Rattle.srs_path.specs.declared.outcomes.Cause.TheVariants.{Memory}
@@ -18,7 +17,7 @@ use Rattle.srs_path.specs.Views.{Entry}
 use Rattle.srs_tree.specs.Tree.{History, path_eq, outcome_at, IsCellOf}
 use Rattle.srs_tree.specs.Rounds.{parts_by}
 use Rattle.srs_tree.specs.WholeTrees.{ListsTrees, ListsWholeTree}
-use Rattle.srs_tree.proofs.HistoryLemmas.{path_eq_same, same_path, or_else, outcome_at-append, IsCellOf_stays}
+use Rattle.srs_tree.proofs.HistoryLemmas.{path_eq_same, or_else, outcome_at-append, IsCellOf_stays}
 use Rattle.srs_tree.proofs.CellsLemmas.{outcome_there, outcome_cases, in_parts, part_new}
 
 -- the paths that wait after G: cells without an event, and none twice; and each event of G is of a cell

@@ -1,10 +1,10 @@
 -- A leaf that proves itself is sound.
-use Rattle.std.proofs.Common.{◌≡◌, ◌≢◌, inl, inr, ℕ, zero, suc, ◌+◌, ◌<◌, ◌≤◌, List, length, slice_get, Some, ℤ, pos, ◌<ℤ◌, refl, sym, ap, ap₂, subst, ◌∙◌, arith}
+use Rattle.std.proofs.Common.{◌≡◌, ◌≢◌, inl, inr, ℕ, zero, suc, ◌+◌, ◌<◌, List, length, slice_get, Some, ℤ, pos, ◌<ℤ◌, refl, sym, ap, ap₂, subst, ◌∙◌, arith}
 use Rattle.std.specs.Prelude.{Contains}
 use Rattle.std.proofs.lemmas.Int.{by_lt_z, ints}
 use Rattle.std.proofs.lemmas.Option.{same_Some}
 use Rattle.srs_num.specs.declared.pairs.V2.{V2}
-use Rattle.srs_num.specs.Points.{Point, LinearForm}
+use Rattle.srs_num.specs.Points.{Point}
 use Rattle.srs_map.specs.Step.{pair, origin, step_of, after}
 use Rattle.srs_map.specs.Finiteness.{IsFinite}
 use Rattle.srs_map.specs.Links.{IsLink}
@@ -14,7 +14,7 @@ use Rattle.srs_plane.specs.Regions.{Area, IsIn}
 use Rattle.srs_path.specs.declared.paths.Side.{Side}
 use Rattle.srs_path.specs.declared.outcomes.Cause.{Cause}
 use Rattle.srs_path.specs.declared.outcomes.Outcome.{Outcome}
-use Rattle.srs_path.specs.declared.outcomes.Outcome.TheVariants.{Inside, Outside, Cut, Left}
+use Rattle.srs_path.specs.declared.outcomes.Outcome.TheVariants.{Inside, Outside, Left}
 use Rattle.srs_path.specs.Cutout.{Covers}
 use Rattle.srs_path.specs.Views.{Budget, Entry}
 use Rattle.srs_tree.specs.Tree.{History}

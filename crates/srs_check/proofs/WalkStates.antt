@@ -1,8 +1,7 @@
 -- The walk of a check, node by node.
-use Rattle.std.proofs.Common.{◌≡◌, ◌≢◌, inl, inr, ℕ, zero, suc, ◌+◌, ◌<◌, ◌≤◌, List, [], ◌∷◌, ◌++◌, map, length, length-append, take, drop, get_or, slice_get, refl, sym, ap, ap₂, subst, ◌∙◌, arith, append-nil}
+use Rattle.std.proofs.Common.{◌≡◌, ℕ, ◌+◌, ◌<◌, ◌≤◌, List, [], ◌∷◌, ◌++◌, map, length, length-append, get_or, slice_get, refl, sym, ap, ap₂, subst, ◌∙◌, arith, append-nil}
 use Rattle.std.proofs.Math.Decide.{dec_lt}
 use Rattle.std.proofs.lemmas.Option.{same_Some, slice_get_within, slice_get-get_or}
-use Rattle.std.proofs.lemmas.List.{length-map}
 use Rattle.std.proofs.lemmas.List.FromFn.{length-map-range_with_len}
 use Rattle.std.specs.declared.option.Option.{Option}
 use Rattle.std.specs.declared.option.Option.TheVariants.{Some, None}
@@ -10,7 +9,7 @@ use Rattle.srs_num.specs.Points.{LinearForm}
 use Rattle.srs_plane.specs.declared.halves.Half.{Half}
 use Rattle.srs_plane.specs.declared.polygons.Vertex.{Vertex}
 use Rattle.srs_plane.specs.Polygons.{edge_at, vertex_at, region_of, IsPolygon}
-use Rattle.srs_plane.specs.Regions.{Area, Divides, ge_side, lt_side}
+use Rattle.srs_plane.specs.Regions.{Area, Divides}
 use Rattle.srs_plane.proofs.Inside.{polygon_has_point}
 use Rattle.srs_path.specs.declared.paths.Side.{Side}
 use Rattle.srs_path.specs.declared.paths.Side.TheVariants.{Ge, Lt}
@@ -19,7 +18,7 @@ use Rattle.srs_path.specs.declared.outcomes.Cause.TheVariants.{Memory}
 use Rattle.srs_path.specs.declared.outcomes.Outcome.{Outcome}
 use Rattle.srs_path.specs.declared.outcomes.Outcome.TheVariants.{Inside, Outside, Cut, Left}
 use Rattle.srs_path.specs.Views.{Entry}
-use Rattle.srs_tree.specs.Tree.{History, Tree, outcome_at, region_at, halves_along, cut_half}
+use Rattle.srs_tree.specs.Tree.{Tree, outcome_at, halves_along, cut_half}
 use Rattle.srs_tree.specs.Rounds.{parts_by}
 use Rattle.srs_tree.specs.Growth.{IsProvedOf}
 use Rattle.srs_tree.proofs.HistoryLemmas.{region_at-snoc}

@@ -1,6 +1,6 @@
 -- The nodes of a whole history in preorder are its cells, each once.
-use Rattle.std.proofs.Common.{◌≡◌, ◌≢◌, inl, inr, ℕ, zero, suc, ◌+◌, ◌<◌, ◌≤◌, Bool, true, false, cond, List, [], ◌∷◌, ◌++◌, map, length, take, get_or, slice_get, refl, sym, ap, ap₂, subst, ◌∙◌, arith}
-use Rattle.std.specs.Prelude.{◌==◌, nat_le, count_by, Contains, IsSome}
+use Rattle.std.proofs.Common.{◌≡◌, ◌≢◌, ℕ, zero, suc, ◌+◌, ◌<◌, ◌≤◌, Bool, true, false, cond, List, [], ◌∷◌, ◌++◌, map, length, take, get_or, slice_get, refl, sym, ap, ap₂, subst, ◌∙◌, arith}
+use Rattle.std.specs.Prelude.{◌==◌, nat_le, count_by, Contains}
 use Rattle.std.specs.List.{AllPairs}
 use Rattle.std.specs.FinMap as finite
 use Rattle.std.proofs.lemmas.Option.{none-some, slice_get-map, slice_get_within, slice_get-get_or, get_or_from_slice_get}
@@ -80,7 +80,7 @@ module _ (E : History) (tree : ListsWholeTree E) where
       let more : paths (take (suc i) E) ≡ paths (take i E) ++ e.path ∷ [] = ap (λ (n : ℕ). paths (take n E)) (sym q) ∙ ap paths (take_more E i d (omega arith)) ∙ map-append path_of (take i E) (e ∷ []) in
       let old = once_upto i (omega arith) in
       let differs : (k : ℕ) (f : List Side) → k < length (paths (take i E)) → get_or (paths (take i E)) k f ≢ e.path =
-          λ k f m r. let u = path_there (take i E) e.path (subst (Contains (paths (take i E))) r (Contains-get_or (paths (take i E)) k f m)) in none-some u.0 (sym fresh ∙ u.1) in
+      λ k f m r. let u = path_there (take i E) e.path (subst (Contains (paths (take i E))) r (Contains-get_or (paths (take i E)) k f m)) in none-some u.0 (sym fresh ∙ u.1) in
       subst (AllPairs ◌≢◌) (sym more) (all_pairs_push ◌≢◌ (paths (take i E)) e.path old differs)
 
   once : AllPairs ◌≢◌ (paths E)

@@ -1,13 +1,10 @@
 -- Each node of the certificate of a whole history proves itself.
-use Rattle.std.proofs.Common.{◌≡◌, ◌≢◌, inl, inr, ℕ, suc, ◌+◌, ◌*◌, ◌<◌, ◌≤◌, Bool, true, false, List, [], ◌∷◌, length, slice_get, refl, sym, ap, ap₂, subst, ◌∙◌, arith, true≢false}
+use Rattle.std.proofs.Common.{◌≡◌, ◌≢◌, inl, inr, ℕ, suc, ◌+◌, ◌*◌, ◌<◌, ◌≤◌, Bool, true, false, List, length, slice_get, refl, sym, ap, subst, ◌∙◌, arith, true≢false}
 use Rattle.std.specs.Prelude.{◌==◌, nat_lt, if◌then◌else◌, Contains, IsTrue}
 use Rattle.std.proofs.lemmas.Bool.Decides.{nat_tests, Decides-eqb}
 use Rattle.std.proofs.lemmas.Option.{none-some, same_Some, slice_get_within}
-use Rattle.std.specs.declared.option.Option.{Option}
 use Rattle.std.specs.declared.option.Option.TheVariants.{Some, None}
 use Rattle.srs_num.specs.declared.pairs.V2.{V2}
-use Rattle.srs_num.specs.Points.{LinearForm}
-use Rattle.srs_map.specs.Step.{origin}
 use Rattle.srs_plane.specs.Regions.{Area, Divides}
 use Rattle.srs_plane.specs.Polygons.{region_of}
 use Rattle.srs_cell.specs.Moves.{LeadsTo, LeadsBackTo}
@@ -15,14 +12,13 @@ use Rattle.srs_path.specs.declared.paths.Side.{Side}
 use Rattle.srs_path.specs.declared.outcomes.Cause.TheVariants.{Depth, Cells, Thin, Memory}
 use Rattle.srs_path.specs.declared.outcomes.Outcome.{Outcome}
 use Rattle.srs_path.specs.declared.outcomes.Outcome.TheVariants.{Inside, Outside, Cut, Left}
-use Rattle.srs_path.specs.declared.limits.Last.{Last}
 use Rattle.srs_path.specs.declared.limits.Last.TheVariants.{Depth as AtDepth, Cells as AtCells}
 use Rattle.srs_path.specs.Witnesses.{IsWitness, unit, link}
 use Rattle.srs_path.specs.Core.{AreRanks, IsRank}
 use Rattle.srs_path.specs.Refinement.{Refines}
 use Rattle.srs_path.specs.Views.{Budget, IsBudget, Entry, last_of}
 use Rattle.srs_tree.specs.Tree.{History, Tree, outcome_at, region_at}
-use Rattle.srs_tree.specs.Rounds.{upto, row_of, last_in, IsByPlan, IsWhole}
+use Rattle.srs_tree.specs.Rounds.{upto, row_of, last_in, IsByPlan}
 use Rattle.srs_tree.specs.WholeTrees.{ListsWholeTree}
 use Rattle.srs_tree.proofs.TreeLemmas.{cell_of_outcome}
 use Rattle.srs_tree.proofs.OnePlanLemmas.{has_event}

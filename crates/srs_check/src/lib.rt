@@ -12,5 +12,5 @@ mod rows;
 mod waiting;
 
 pub use checks::check;
-pub use laws::whole_certificates;
 pub use faults::{Checked, Counts, Fault};
+pub use laws::whole_certificates;

@@ -1,10 +1,9 @@
-use Rattle.std.proofs.Common.{◌≡◌, ◌+◌, ℕ, slice_get, Some, sym, ap, ◌∙◌, arith}
+use Rattle.std.proofs.Common.{◌≡◌, slice_get, Some, sym, ap, ◌∙◌, arith}
 use Rattle.srs_path.specs.declared.outcomes.Outcome.TheVariants.{Inside, Outside, Cut, Left}
 use Rattle.srs_path.specs.Views.{Entry}
 use Rattle.srs_check.specs.declared.faults.Counts.{Counts}
-use Rattle.srs_check.specs.Faults.{is_inside, is_outside, is_cut, is_left}
 use Rattle.srs_check.proofs.Answering.{same_get}
-use Rattle.srs_check.proofs.NodeCounts.{first_few, counts_more, all_counts}
+use Rattle.srs_check.proofs.NodeCounts.{counts_more, all_counts}
 use Rattle.srs_check.proofs.checks.count_nodes.Goals as goal
 use Rattle.srs_check.proofs.checks.count_nodes.Goals.{in-Inside, in-Outside, in-Cut, in-Left}
 

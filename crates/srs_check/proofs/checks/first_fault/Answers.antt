@@ -1,5 +1,4 @@
-use Rattle.std.proofs.Common.{◌≡◌, ◌+◌, [], ◌∷◌, List, refl, sym, ap, subst, ◌∙◌, arith}
-use Rattle.srs_plane.specs.Regions.{Area}
+use Rattle.std.proofs.Common.{◌≡◌, ◌+◌, ◌∷◌, sym, subst, ◌∙◌, arith}
 use Rattle.srs_check.proofs.Excluded.{not_proved}
 use Rattle.srs_check.proofs.WholeProved.{whole_proved}
 use Rattle.srs_check.proofs.WalkStates.{WalkState, walk_first, some_cell, few_here, after_leaf, after_cut, after_fault, walk_proves, walk_certifies}

@@ -1,9 +1,9 @@
-use Rattle.std.proofs.Common.{◌≡◌, ◌≢◌, ◌<◌, refl, sym, arith, true≢false}
+use Rattle.std.proofs.Common.{◌≢◌, ◌<◌, refl, sym, arith, true≢false}
 use Rattle.std.proofs.Math.Decide.{dec_lt}
 use Rattle.srs_map.specs.Step.{origin}
 use Rattle.srs_cell.specs.Moves.{LeadsTo}
 use Rattle.srs_check.specs.Listed.{IsBelow}
-use Rattle.srs_check.proofs.Spans.{walk_starts, walk_goes, walked_all, ahead_begins}
+use Rattle.srs_check.proofs.Spans.{walk_goes, walked_all, ahead_begins}
 use Rattle.srs_check.proofs.Entries.{is_below, missing_ahead, no_fall as fault_no_fall}
 use Rattle.srs_check.proofs.listed.check_ahead.Goals as goal
 
@@ -21,10 +21,10 @@ returns-then-stays_up-clause-err c =
 pub loop-k-preserved : goal.loop-k-preserved
 loop-k-preserved c =
     let lower : c.args.w ≢ origin → c.in-Some.reached < c.args.rank =
-        λ z. elim (dec_lt c.in-Some.reached c.args.rank) as (λ _. c.in-Some.reached < c.args.rank) [
-          | yes l ↦ l
-          | no l ↦ absurd (true≢false (sym (c.if-stays_up.ensures.1 (z, omega arith))))
-        ] in
+    λ z. elim (dec_lt c.in-Some.reached c.args.rank) as (λ _. c.in-Some.reached < c.args.rank) [
+      | yes l ↦ l
+      | no l ↦ absurd (true≢false (sym (c.if-stays_up.ensures.1 (z, omega arith))))
+    ] in
     walk_goes c.args.ranks.now (IsBelow c.args.ranks.now (c.args.w, c.args.rank)) c.args.w c.moves-span.result.low c.loop-k.k c.loop-k.place c.pair_at-v.result c.loop-k.invariant c.pair_at-v.ensures
     (is_below c.args.ranks.now c.place_for-place.ensures.list (c.args.w, c.args.rank) c.pair_at-v.result c.in-Some.reached c.in-Some.ensures.some lower) (c.in-Some.ensures.next refl)
 

@@ -1,4 +1,3 @@
-use Rattle.srs_num.specs.declared.pairs.V2.{V2}
 use Rattle.srs_check.specs.Listed.{IsBelow}
 use Rattle.srs_check.proofs.Spans.{Walked}
 use Rattle.srs_check.proofs.listed.check_ahead.Given as goal

@@ -1,4 +1,4 @@
-use Rattle.std.proofs.Common.{◌≡◌, ◌<◌, ◌≤◌, ◌+◌, List, ℕ, length, set, get_or, sym, ap, subst, ◌∙◌, arith}
+use Rattle.std.proofs.Common.{◌≡◌, ◌≤◌, ◌+◌, ℕ, length, set, get_or, sym, ap, subst, ◌∙◌, arith}
 use Rattle.srs_path.specs.Views.{Entry}
 use Rattle.srs_check.proofs.Answering.{same_get}
 use Rattle.srs_check.proofs.RowCounts.{RowsSoFar, no_rows, all_rows, so_far_few, so_far_more}

@@ -1,4 +1,4 @@
-use Rattle.std.proofs.Common.{sym, ap, subst}
+use Rattle.std.proofs.Common.{sym, subst}
 use Rattle.std.specs.Prelude.{All, IsSome}
 use Rattle.srs_check.proofs.waiting.Waiting.divide.Goals as goal
 use Rattle.srs_check.proofs.waiting.Waiting.divide.Goals.{in-Some+in_ok-push, in_default}
