@@ -45,24 +45,28 @@ pub record IsFirstFault (c : CertView) (line : ℕ) (fault : Fault) : Type 0 whe
   pub line_is : line ≡ line_of_node c node
   pub fault_is : IsFaultOf c node fault
 
+-- whether the cell was found finite
 abbrev pub is_inside : Outcome → Bool
 is_inside (Inside ranks) = true
 is_inside (Outside cycle) = false
 is_inside (Cut h) = false
 is_inside (Left cause) = false
 
+-- whether a cycle was found of it
 abbrev pub is_outside : Outcome → Bool
 is_outside (Inside ranks) = false
 is_outside (Outside cycle) = true
 is_outside (Cut h) = false
 is_outside (Left cause) = false
 
+-- whether it was cut
 abbrev pub is_cut : Outcome → Bool
 is_cut (Inside ranks) = false
 is_cut (Outside cycle) = false
 is_cut (Cut h) = true
 is_cut (Left cause) = false
 
+-- whether it was left
 abbrev pub is_left : Outcome → Bool
 is_left (Inside ranks) = false
 is_left (Outside cycle) = false
