@@ -11,8 +11,8 @@ use srs_num::{Corner, NoMemory, V2, floor_div};
 use std::alloc::Global;
 use std::marker::Model;
 
-// The most in magnitude of the numbers of a corner, and of the entries of a pair, whose values 64 bits hold: these are
-// at most 8 * 2^20 in magnitude, since corners are near, and so are their floors, and 2^23 * 2^38 is below 2^63.
+// The most in magnitude of the numbers of a corner, and of the entries of a pair, for which 64 bits suffice. At a near
+// corner the value of such a pair and its floors are within 8 * 2^20, and 2^23 * 2^38 is below 2^63.
 const SHORT: i128 = 1 << 38;
 
 const SHORT_ENTRY: i64 = 1 << 20;

@@ -1,4 +1,13 @@
 pub mod Growing
+pub mod Leaves
+pub mod LeafLaws
+pub mod TreeLaws
+pub mod CertLaws
+pub mod TreeTexts
+pub mod CertTexts
+pub mod LineShapes
+pub mod TreeRuns
+pub mod CertRuns
 pub mod LineCounts
 pub mod NodeLines
 pub mod LtParts

@@ -119,7 +119,7 @@ parts_cut H places waiting_cuts after more i e h s at cut grown pushed = record 
         ]
   ]
 
-no_parts : (path : List Side) (o : Outcome) → ((h : LinearForm) → o ≡ Cut h → ⊥) → parts_by path o ≡ []
+pub no_parts : (path : List Side) (o : Outcome) → ((h : LinearForm) → o ≡ Cut h → ⊥) → parts_by path o ≡ []
 no_parts path (Inside ranks) leaf = refl
 no_parts path (Outside cycle) leaf = refl
 no_parts path (Cut h) leaf = absurd (leaf h refl)

@@ -52,8 +52,8 @@ IsFine Done s = (s.ring.left ≡ 0) × IsFull s.ring
 pub vertex_is : (v : Vertex) (line : List ℕ) → SaysVertex v line → ended line ≡ vertex_text v
 vertex_is v line p = ap ended (said_is (kind_word v.kind) (numbers_of v) line p.0).0
 
-head_text : (n : ℕ) (line : List ℕ) → line ≡ line_of (codes "polygon") (pos n ∷ []) → so_far [] n ≡ ended line
-head_text n line e =
+pub opened_text : (n : ℕ) (line : List ℕ) → line ≡ line_of (codes "polygon") (pos n ∷ []) → so_far [] n ≡ ended line
+opened_text n line e =
     let size : length {A = Vertex} [] + n ≡ n = omega arith in
     rw (e, size) (append-nil (count_text (codes "polygon") n))
 
@@ -64,7 +64,7 @@ more_text vs v left next line one e =
     rw (same, parts, e) (sym (append_assoc (count_text (codes "polygon") (length vs + left)) (flat_map vertex_text vs) (vertex_text v)))
 
 -- what a vertex's line makes of the text so far and of the ring
-added : (s r : RingView) (v : Vertex) (line : List ℕ) → 0 < s.left → SaysVertex v line → Adds s v r
+pub added : (s r : RingView) (v : Vertex) (line : List ℕ) → 0 < s.left → SaysVertex v line → Adds s v r
     → (so_far r.vertices r.left ≡ so_far s.vertices s.left ++ ended line) × (r.left ≡ 0 → IsFull r)
 added s r v line more p (inl (not_last, e)) =
     rw e (more_text s.vertices v s.left (s.left - 1) line (omega arith) (vertex_is v line p), (λ zero. absurd (omega arith)))
@@ -73,7 +73,7 @@ added s r v line more p (inr (last, polygon, e)) =
 
 step_text : (phase : Phase) (s t : PolygonReader) (line : List ℕ) → s.phase ≡ phase → StepsFrom phase s line t → IsFine phase s → (spelled t.phase t ≡ spelled phase s ++ ended line) × IsFine t.phase t
 step_text Head s t line at (r, (n, p, e), f) fine =
-    rw (f, e) (head_text n line (said_is (codes "polygon") (pos n ∷ []) line p.2).0, (λ zero. absurd (omega arith)))
+    rw (f, e) (opened_text n line (said_is (codes "polygon") (pos n ∷ []) line p.2).0, (λ zero. absurd (omega arith)))
 step_text Vertices s t line at (inl (a, r, (v, p, adds), f)) fine = let more = added s.ring r v line a p adds in rw (f, at) more
 step_text Vertices s t line at (inr (a, p, e)) fine = rw (e, p) (refl, (a, fine a))
 step_text Done s t line at p fine = absurd p
@@ -160,11 +160,11 @@ runs_from done v (w ∷ rest) placed polygon =
       rw (append_assoc done (v ∷ []) (w ∷ rest)) at more,
     )
 
-polygon_plain : All (λ c. 32 < c) (codes "polygon")
+pub polygon_plain : All (λ c. 32 < c) (codes "polygon")
 polygon_plain =
     All-from_recursion (λ c. 32 < c) (codes "polygon") (omega arith, (omega arith, (omega arith, (omega arith, (omega arith, (omega arith, (omega arith, tt)))))))
 
-size_fits : (n : ℕ) → n ≤ 16 → All (FitsSigned w64) (pos n ∷ [])
+pub size_fits : (n : ℕ) → n ≤ 16 → All (FitsSigned w64) (pos n ∷ [])
 size_fits n h = let f : FitsSigned w64 (pos n) = omega (arith, ints) in All-cons (FitsSigned w64) (pos n) [] f (All-nil (FitsSigned w64))
 
 opened : (vs : List Vertex) → IsPolygon vs → Opens (line_of (codes "polygon") (pos (length vs) ∷ [])) (growing (length vs) []).ring

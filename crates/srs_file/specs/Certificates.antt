@@ -1,14 +1,15 @@
 -- What a certificate holds, its text, and where its nodes stand in it.
-use Rattle.std.specs.Prelude.{◌≡◌, ℕ, ◌+◌, ◌<◌, ◌==◌, List, [], ◌∷◌, ◌++◌, length, map, take, count_by, slice_get, slice_index, Some}
+use Rattle.std.specs.Prelude.{◌≡◌, ⊤, ℕ, ◌+◌, ◌<◌, ◌==◌, All, List, [], ◌∷◌, ◌++◌, length, map, take, count_by, slice_get, slice_index, Some}
 use Rattle.std.specs.List.{flat_map}
-use Rattle.srs_num.specs.Points.{LinearForm}
+use Rattle.srs_num.specs.Points.{LinearForm, IsFormSized}
 use Rattle.srs_plane.specs.declared.polygons.Vertex.{Vertex}
 use Rattle.srs_plane.specs.Polygons.{IsPolygon, region_of}
 use Rattle.srs_path.specs.declared.paths.Side.{Side}
 use Rattle.srs_path.specs.declared.paths.Side.TheVariants.{Lt}
 use Rattle.srs_path.specs.declared.outcomes.Outcome.{Outcome}
-use Rattle.srs_path.specs.declared.outcomes.Outcome.TheVariants.{Cut}
-use Rattle.srs_path.specs.Views.{Budget, Entry}
+use Rattle.srs_path.specs.declared.outcomes.Outcome.TheVariants.{Inside, Outside, Cut, Left}
+use Rattle.srs_path.specs.Lists.{IsRankList, IsCycle}
+use Rattle.srs_path.specs.Views.{Budget, IsBudget, Entry}
 use Rattle.srs_tree.specs.Tree.{History}
 use Rattle.srs_tree.specs.WholeTrees.{ListsWholeTree, IsWithin}
 use Rattle.srs_tree.specs.Snapshots.{Snapshot, StandsFor}
@@ -34,9 +35,18 @@ pub record IsTextOf (vertices : List Vertex) (limits : Budget) (H : History) (te
   pub stands : StandsFor (region_of vertices) H snapshot
   pub written : text ≡ cert_text (record { vertices = vertices; limits = limits; events = preorder_of snapshot })
 
--- a polygon, and the events of a whole tree within the limits
+-- the numbers of the outcome are in their ranges
+abbrev pub IsInRange : Outcome → Type 0
+IsInRange (Inside entries) = IsRankList entries
+IsInRange (Outside cycle) = IsCycle cycle
+IsInRange (Cut h) = IsFormSized h
+IsInRange (Left cause) = ⊤
+
+-- a polygon, limits, and the events of a whole tree within the limits
 pub record IsCertificate (c : CertView) : Type 0 where
   pub polygon : IsPolygon c.vertices
+  pub limits_are : IsBudget c.limits
+  pub ranges : All (λ e. IsInRange e.outcome) c.events
   pub tree : ListsWholeTree c.events
   pub within : IsWithin c.limits c.events
 

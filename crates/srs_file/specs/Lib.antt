@@ -1,6 +1,9 @@
 pub mod Texts
-pub mod Grammar
 pub mod Certificates
 pub mod Heights
+pub mod Grammar
 pub mod Ring
 pub mod PolygonReading
+pub mod Leaf
+pub mod TreeReading
+pub mod CertReading

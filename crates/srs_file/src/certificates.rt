@@ -1,11 +1,11 @@
 // Certificates.
-ghost use Rattle.std.specs.Prelude.{◌≡◌, ◌<◌, ◌≤◌, length, IsTrue, ◌↔◌, IfOk};
+ghost use Rattle.std.specs.Prelude.{◌≡◌, ◌<◌, ◌≤◌, length, IsTrue, ◌↔◌, IfOk, OnOk, All};
 ghost use Rattle.srs_num.specs.Points.{LinearForm};
 ghost use Rattle.srs_plane.specs.Polygons.{IsPolygon, IsCounted};
 ghost use Rattle.srs_path.specs.declared.outcomes.Outcome.TheVariants.{Cut};
 ghost use Rattle.srs_tree.specs.WholeTrees.{ListsWholeTree, IsWithin};
 ghost use Rattle.srs_file.specs.Heights.{height};
-ghost use Rattle.srs_file.specs.Certificates.{line_of_node, IsCertificate, ListsLines, ListsLtParts};
+ghost use Rattle.srs_file.specs.Certificates.{line_of_node, IsInRange, IsCertificate, ListsLines, ListsLtParts};
 
 use srs_num::NoMemory;
 use srs_path::{Limits, Outcome};
@@ -49,6 +49,8 @@ impl Cert {
         requires within { IsWithin limits events }
         ensures { IfOk result (λ c. c ≡ record { vertices = vertices.now; limits = limits; events = events }) }
     {
+        // Limits are in their ranges.
+        let _ = limits.wits();
         let lines = lines_of(alloc, vertices, &limits, &events)?;
         let lt_parts = lt_parts_of(alloc, &events)?;
         Ok(Cert {
@@ -112,7 +114,8 @@ fn lines_of(
 ) -> Result<Vec<u32>, NoMemory>
     requires counted { IsCounted vertices.now }
     requires within { IsWithin limits.now events.now }
-    ensures { IfOk result (λ lines. ListsLines (record { vertices = vertices.now; limits = limits.now; events = events.now }) lines.items) }
+    ensures lines { IfOk result (λ lines. ListsLines (record { vertices = vertices.now; limits = limits.now; events = events.now }) lines.items) }
+    ensures ranges { OnOk result (All (λ e. IsInRange e.outcome) events.now) }
 {
     // The number of lines is bounded by these.
     let _ = limits.wits();
@@ -127,13 +130,22 @@ fn lines_of(
     Ok(lines)
 }
 
-// How many lines the outcome has.
+// How many lines the outcome has; its numbers are in their ranges.
 fn height_of(outcome: &Outcome) -> u32
-    ensures { result ≡ height outcome.now }
+    ensures height { result ≡ height outcome.now }
+    ensures range { IsInRange outcome.now }
 {
     match outcome {
         Outcome::Inside(ranks) => ranks.len() + 1,
-        Outcome::Outside(_) | Outcome::Cut(_) | Outcome::Left(_) => 1,
+        Outcome::Outside(cycle) => {
+            let _ = cycle.len();
+            1
+        }
+        Outcome::Cut(form) => {
+            let _ = form.parts();
+            1
+        }
+        Outcome::Left(_) => 1,
     }
 }
 

@@ -21,7 +21,7 @@ numbers_length (t ∷ ts) (z ∷ zs) a = ap suc (numbers_length ts zs a.1)
 pub word_once : (v w line : List ℕ) → HasWord v line → HasWord w line → v ≡ w
 word_once v w line p q = let e : v ∷ p.fields ≡ w ∷ q.fields = sym p.split ∙ q.split in cc
 
-fields_once : (word line : List ℕ) (ts us : List (List ℕ)) → tokens line ≡ word ∷ ts → tokens line ≡ word ∷ us → ts ≡ us
+pub fields_once : (word line : List ℕ) (ts us : List (List ℕ)) → tokens line ≡ word ∷ ts → tokens line ≡ word ∷ us → ts ≡ us
 fields_once word line ts us p q = let e : word ∷ ts ≡ word ∷ us = sym p ∙ q in cc
 
 pub says_once : (word line : List ℕ) (ys zs : List ℤ) → Says word ys line → Says word zs line → ys ≡ zs

@@ -4,3 +4,5 @@ pub mod FieldLemmas
 pub mod TokenLemmas
 pub mod LineTexts
 pub mod FieldLaws
+pub mod ManyLemmas
+pub mod ManyLaws

@@ -37,7 +37,7 @@ pub fn has_word(line: &[u8], word: &[u8]) -> bool
     }
 }
 
-fn is_word(token: &[u8], word: &[u8]) -> bool
+pub(crate) fn is_word(token: &[u8], word: &[u8]) -> bool
     ensures { IsTrue result ↔ (token.now ≡ word.now) }
 {
     token == word

@@ -5,9 +5,11 @@ use Rattle.srs_plane.specs.declared.polygons.Vertex.{Vertex}
 use Rattle.srs_plane.specs.declared.halves.Half.{Half}
 use Rattle.srs_plane.specs.Polygons.{vertex_at, edge_at, IsCounted, region_of}
 use Rattle.srs_plane.specs.Regions.{Area, HasPoint}
-use Rattle.srs_path.specs.Views.{Budget}
+use Rattle.srs_path.specs.Views.{Budget, IsBudget}
 use Rattle.srs_tree.specs.Snapshots.{Snapshot}
 use Rattle.srs_tree.specs.Preorder.{preorder_of}
+use Rattle.srs_tree.specs.WholeTrees.{ListsWholeTree, IsWithin}
+use Rattle.srs_tree.proofs.Listed.{listed}
 use Rattle.srs_tree.proofs.OnePlanLemmas.{sound_at}
 use Rattle.srs_tree.proofs.PartitionAll.{IsPartition-legal}
 use Rattle.srs_tree.proofs.PlannedSteps.{outcome_of_event}
@@ -21,6 +23,10 @@ few_halves vs R counted is =
     let side : ℕ → Half = λ i. record { form = edge_at vs i; kind = (vertex_at vs i).kind } in
     let e : length R ≡ length vs = ap length is ∙ length-map-range_with_len side 0 (length vs) in
     omega (arith, e, counted.1)
+
+-- in preorder the events list a whole tree within the limits
+pub refined_listed : (b : Budget) (R : Area) (v : Snapshot) → IsBudget b → IsRefined R b v → ListsWholeTree (preorder_of v) × IsWithin b (preorder_of v)
+refined_listed b R v budget refined = listed R b refined.history v budget refined.plan.whole refined.stands
 
 refined_text : (vs : List Vertex) (b : Budget) (v : Snapshot) (text : List ℕ) → HasPoint (region_of vs) → IsRefined (region_of vs) b v
     → text ≡ cert_text (record { vertices = vs; limits = b; events = preorder_of v }) → IsCertificateOf vs b text

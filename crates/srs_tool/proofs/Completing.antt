@@ -38,14 +38,14 @@ same_input : (left left_after : Option (List ℕ)) (input bytes : List ℕ) → 
 same_input None left_after input bytes held taken end = absurd (none-some input held)
 same_input (Some xs) None input bytes held taken end = absurd taken
 same_input (Some xs) (Some ys) input bytes held taken end =
-    sym (append-nil bytes) ∙ ap (λ (zs : List ℕ). bytes ++ zs) (sym end) ∙ sym taken ∙ same_Some held
+    sym (append-nil bytes) ∙ ap (λ (zs : List ℕ). bytes ++ zs) (sym end) ∙ sym taken ∙ same_Some xs input held
 
 -- no more is taken than was there
 took_within : (left left_after : Option (List ℕ)) (input bytes : List ℕ) → left ≡ Some input → Consumes left left_after bytes → length bytes ≤ length input
 took_within None left_after input bytes held taken = absurd (none-some input held)
 took_within (Some xs) None input bytes held taken = absurd taken
 took_within (Some xs) (Some ys) input bytes held taken =
-    let e : length input ≡ length bytes + length ys = ap length (sym (same_Some held) ∙ taken) ∙ length-append bytes ys in omega (arith, e)
+    let e : length input ≡ length bytes + length ys = ap length (sym (same_Some xs input held) ∙ taken) ∙ length-append bytes ys in omega (arith, e)
 
 -- a good input isn't refused
 not_refused : (command : Command) (input output : List ℕ) → Owes command input Refused output → IsInputOf command input → ⊥

@@ -87,8 +87,9 @@ fn certificate(
     requires region { cell ≡ region_of vertices.now }
     ensures { IfOk result (IsCertificateOf vertices.now limits.now) }
 {
-    // A cell has a point.
+    // A cell has a point, and limits are within their ranges.
     let _ = cell.region();
+    let _ = limits.wits();
     let version = rounds(alloc, cell, limits)?;
     let events = version.preorder(alloc)?;
     let cert = Cert::new(alloc, vertices.as_slice(), *limits, events)?;

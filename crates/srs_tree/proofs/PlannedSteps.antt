@@ -1,4 +1,4 @@
--- IsPlanned histories one event at a time, and the way back from whole histories in rounds.
+-- Planned histories one event at a time, and the way back from whole histories in rounds.
 use Rattle.std.proofs.Common.{◌≡◌, inl, inr, ℕ, zero, suc, ◌+◌, ◌<◌, ◌≤◌, [], ◌∷◌, ◌++◌, take, drop, slice_get, length, length-drop, get_or, refl, sym, ap, subst, ◌∙◌, arith, take-append-drop}
 use Rattle.std.specs.Prelude.{Contains, IsSome}
 use Rattle.std.specs.List.{AllByRecursion}

@@ -82,7 +82,7 @@ queue_empty Root W = record {
 still_none : (H : History) (e : Entry) (p : List Side) → outcome_at H p ≡ None → path_eq e.path p ≡ false → outcome_at (H ++ e ∷ []) p ≡ None
 still_none H e p n d = outcome_at-append H (e ∷ []) p ∙ ap (λ o. or_else o (cond (path_eq e.path p) (Some e.outcome) None)) n ∙ ap (λ b. cond b (Some e.outcome) None) d
 
-none_or : (x : Option Outcome) → ((o : Outcome) → x ≡ Some o → ⊥) → x ≡ None
+pub none_or : (x : Option Outcome) → ((o : Outcome) → x ≡ Some o → ⊥) → x ≡ None
 none_or None f = refl
 none_or (Some o) f = absurd (f o refl)
 

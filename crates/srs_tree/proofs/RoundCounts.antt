@@ -3,8 +3,7 @@ use Rattle.std.proofs.Common.{◌≡◌, ◌≢◌, inl, inr, ℕ, suc, ◌<◌,
 use Rattle.std.specs.Prelude.{◌==◌, nat_le, Contains}
 use Rattle.std.specs.List.{AllPairs, filter}
 use Rattle.std.proofs.lemmas.Bool.Decides.{nat_tests, Decides-eqb}
-use Rattle.std.specs.declared.option.Option.{Option}
-use Rattle.std.specs.declared.option.Option.TheVariants.{Some, None}
+use Rattle.std.specs.declared.option.Option.TheVariants.{Some}
 use Rattle.srs_plane.specs.Regions.{Area}
 use Rattle.srs_path.specs.declared.paths.Side.{Side}
 use Rattle.srs_path.specs.declared.outcomes.Outcome.{Outcome}
@@ -17,15 +16,11 @@ use Rattle.srs_tree.specs.Queue.{queue_of}
 use Rattle.srs_tree.proofs.HistoryLemmas.{path_eq_same, same_path}
 use Rattle.srs_tree.proofs.CellsLemmas.{cells_are}
 use Rattle.srs_tree.proofs.OnePlanLemmas.{count_same, has_event}
-use Rattle.srs_tree.proofs.QueueLemmas.{queue-append, queue_is}
+use Rattle.srs_tree.proofs.QueueLemmas.{queue-append, queue_is, none_or}
 use Rattle.srs_tree.proofs.Bounded.{count_all}
 
 le_true : (a k : ℕ) → a ≤ k → nat_le a k ≡ true
 le_true a k l = grind (arith, nat_tests)
-
-none_of : (u : Option Outcome) → ((o : Outcome) → u ≡ Some o → ⊥) → u ≡ None
-none_of None f = refl
-none_of (Some o) f = absurd (f o refl)
 
 module _ (Root : Area) (W : ℕ) (H : History) (k : ℕ) (legal : IsLegal Root W H) (above : (e : Entry) → Contains H e → length e.path < k) where
   -- a path that has an outcome is shorter than k
@@ -49,7 +44,7 @@ module _ (Root : Area) (W : ℕ) (H : History) (k : ℕ) (legal : IsLegal Root W
       forth : (p : List Side) → (length p == k) ≡ true → Contains (cells_of H) p → Contains (queue_of H) p
       forth p t c =
           let same : length p ≡ k = (Decides-eqb (length p) k).0 t in
-          (queue_is Root W H legal).from p ((cells_are Root W H legal).to p c) (none_of (outcome_at H p) (λ o e. let l = shorter p o e in absurd (omega (arith, l, same))))
+          (queue_is Root W H legal).from p ((cells_are Root W H legal).to p c) (none_or (outcome_at H p) (λ o e. let l = shorter p o e in absurd (omega (arith, l, same))))
 
       back : (p : List Side) → (length p == k) ≡ true → Contains (queue_of H) p → Contains (cells_of H) p
       back p t c = (cells_are Root W H legal).from p ((queue_is Root W H legal).to p c).0

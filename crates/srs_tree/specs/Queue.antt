@@ -1,5 +1,6 @@
 -- The cells that wait for an event, in the order of the frontier.
-use Rattle.std.specs.Prelude.{◌≡◌, ◌≢◌, ℕ, not, List, [], ◌∷◌, ◌++◌, AllPairs, Contains, filter, fold, Some, None}
+use Rattle.std.specs.Prelude.{◌≡◌, ◌≢◌, ℕ, not, List, [], ◌∷◌, ◌++◌, length, AllPairs, Contains, filter, fold, Some, None}
+use Rattle.std.specs.List.Sorted.{IsNonDecreasingBy}
 use Rattle.std.specs.declared.option.Option.{Option}
 use Rattle.srs_plane.specs.Regions.{Area}
 use Rattle.srs_path.specs.declared.paths.Side.{Side}
@@ -32,6 +33,11 @@ QueueIsOpen = (Root : Area) (W : ℕ) (H : History) → IsLegal Root W H → Are
 abbrev pub PlannedEnds : Type 0
 PlannedEnds =
     (Root : Area) (L : Budget) (H : History) → IsPlanned Root L H → queue_of H ≡ [] → IsWhole Root L H × IsInRounds H
+
+-- the statement that along the queue of a planned history the lengths of the paths never fall
+abbrev pub QueueIsInOrder : Type 0
+QueueIsInOrder =
+    (Root : Area) (L : Budget) (H : History) → IsPlanned Root L H → IsNonDecreasingBy (λ path. length path) (queue_of H)
 
 -- a cell that waits: its path and its region
 pub record WaitingCell : Type 0 where

@@ -1,127 +1,174 @@
 -- What one more pair makes of those found.
-use Rattle.std.proofs.Common.{◌≡◌, ◌≢◌, ◌⊎◌, inl, inr, ℕ, zero, suc, ◌+◌, ◌<◌, ◌≤◌, List, [], ◌∷◌, ◌++◌, length, Bool, true, false, arith, ap, subst, sym, ◌∙◌, refl, length-append, lit<, pos, negsuc, append_assoc}
+use Rattle.std.proofs.Common.{◌≡◌, ◌≢◌, ◌⊎◌, inl, inr, ℕ, zero, suc, ◌^◌, ◌≤◌, List, [], ◌∷◌, ◌++◌, Bool, true, false, IsTrue, arith, ap, subst, sym, ◌∙◌, refl, lit<, pos, append_assoc}
 use Rattle.std.specs.Prelude.{Contains, AllPairs, if◌then◌else◌, not, Result, Ok, Err, IfOk}
 use Rattle.std.specs.List.{list_any, IsDistinct}
+use Rattle.std.proofs.lemmas.Bool.{false≢true}
 use Rattle.std.proofs.lemmas.List.{append-nil}
 use Rattle.std.proofs.lemmas.List.Elements.{Contains-append_left, Contains-append_right, Contains-append_cases}
 use Rattle.std.proofs.lemmas.Map.Made.{AllPairs-from_IsDistinct}
 use Rattle.std.proofs.lemmas.Map.Views.{Contains-from_any}
 use Rattle.indexmap.specs.IndexSet.{insert_key}
 use Rattle.srs_num.specs.declared.pairs.V2.{V2}
-use Rattle.srs_map.specs.Step.{pair, IsNarrow}
+use Rattle.srs_num.proofs.Ranges.{within_opposite}
+use Rattle.srs_map.specs.Step.{pair, minus, IsNarrow}
 use Rattle.srs_map.specs.Links.{right, left, up, down}
 use Rattle.srs_plane.specs.Regions.{Area}
 use Rattle.srs_path.specs.Witnesses.{IsWitness, unit}
 use Rattle.srs_path.proofs.WitnessLemmas.{pair_eq, pair-decides}
-use Rattle.srs_wit.specs.Listing.{AreTooMany}
-use Rattle.srs_wit.specs.Search.{AreFound, Adds, Extends, HasUnits}
+use Rattle.srs_wit.specs.Halves.{IsUpperOf, AreNarrow, IsHeld, count_both}
+use Rattle.srs_wit.specs.Search.{AreHalf, AreFound, Adds, Extends, HasUnits}
+use Rattle.srs_wit.proofs.Mirrored.{minus_twice, witness_mirrored}
 
 pub contains_one : (v w : V2) → Contains (v ∷ []) w → w ≡ v
 contains_one v w (zero, h, e) = sym e
 contains_one v w (suc k, h, e) = absurd (omega arith)
 
--- an insertion of v, by what it answered
-module _ (W : ℕ) (old : List V2) (v : V2) (new : List V2) (e : new ≡ insert_key pair_eq old v) (d : IsDistinct pair_eq new) where
+-- the same of the pair on the other side
+pub mirror_held : (ws : List V2) (met : Bool) (v : V2) → IsHeld ws met v → IsHeld ws met (minus v)
+mirror_held ws met v (inl c) = inr (inl (subst (Contains ws) (sym (minus_twice v)) c))
+mirror_held ws met v (inr (inl c)) = inl c
+mirror_held ws met v (inr (inr c)) = inr (inr (ap minus c.0, c.1))
+
+upper_narrow : (v u : V2) → IsUpperOf v u → IsNarrow v → IsNarrow u
+upper_narrow v u (h, inl e) n = subst IsNarrow (sym e) n
+upper_narrow v u (h, inr e) n = subst IsNarrow (sym e) (within_opposite v.a (2 ^ 37) n.0, within_opposite v.b (2 ^ 37) n.1)
+
+upper_witness : (R : Area) (v u : V2) → IsUpperOf v u → IsWitness R v → IsWitness R u
+upper_witness R v u (h, inl e) w = subst (IsWitness R) (sym e) w
+upper_witness R v u (h, inr e) w = subst (IsWitness R) (sym e) (witness_mirrored R w)
+
+upper_held : (ws : List V2) (met : Bool) (v u : V2) → IsUpperOf v u → Contains ws u → IsHeld ws met v
+upper_held ws met v u (h, inl e) c = inl (subst (Contains ws) e c)
+upper_held ws met v u (h, inr e) c = inr (inl (subst (Contains ws) e c))
+
+-- an insertion of u, the upper one of v and -v, by what it answered
+module _ (W : ℕ) (old : List V2) (was : Bool) (v u : V2) (new : List V2) (e : new ≡ insert_key pair_eq old u) (d : IsDistinct pair_eq new) (upper : IsUpperOf v u) where
   different : AllPairs ◌≢◌ new
   different = AllPairs-from_IsDistinct pair-decides new d
 
-  by_test : (b : Bool) → list_any (pair_eq v) old ≡ b → new ≡ (if b then old else old ++ v ∷ [])
-  by_test b t = e ∙ ap (λ (x : Bool). if x then old else old ++ v ∷ []) t
+  by_test : (b : Bool) → list_any (pair_eq u) old ≡ b → new ≡ (if b then old else old ++ u ∷ [])
+  by_test b t = e ∙ ap (λ (x : Bool). if x then old else old ++ u ∷ []) t
 
-  pub adds_known : (waited : List V2) → list_any (pair_eq v) old ≡ true → IsNarrow v → length old ≤ W → Adds W old v new waited waited
+  pub adds_known : (waited : List V2) → list_any (pair_eq u) old ≡ true → IsNarrow v → count_both old was ≤ W → Adds W old was v new was waited waited
   adds_known waited t n h =
       let s : new ≡ old = by_test true t in
       record {
         more = [];
         is = s ∙ sym (append-nil old);
         waits = sym (append-nil waited);
-        here = subst (λ (x : List V2). Contains x v) (sym s) (Contains-from_any (λ x y. (pair-decides x y).0) v old t);
+        here = upper_held new was v u upper (subst (λ (x : List V2). Contains x u) (sym s) (Contains-from_any (λ x y. (pair-decides x y).0) u old t));
         others = λ w c. inl (subst (λ (x : List V2). Contains x w) s c);
-        different = different;
+        center = inl;
+        stays = λ h. h;
+        different = λ _. different;
         narrow = n;
-        few = subst (λ (x : List V2). length x ≤ W) (sym s) h;
+        few = subst (λ (x : List V2). count_both x was ≤ W) (sym s) h;
       }
 
-  module _ (t : list_any (pair_eq v) old ≡ false) where
-    grown : new ≡ old ++ v ∷ []
+  module _ (t : list_any (pair_eq u) old ≡ false) where
+    grown : new ≡ old ++ u ∷ []
     grown = by_test false t
 
-    others : (w : V2) → Contains new w → Contains old w ⊎ (w ≡ v)
-    others w c = elim (Contains-append_cases old (v ∷ []) w (subst (λ (x : List V2). Contains x w) grown c)) [ inl x ↦ inl x | inr x ↦ inr (contains_one v w x) ]
+    others : (w : V2) → Contains new w → Contains old w ⊎ IsUpperOf v w
+    others w c = elim (Contains-append_cases old (u ∷ []) w (subst (λ (x : List V2). Contains x w) grown c)) [
+      | inl x ↦ inl x
+      | inr x ↦ inr (subst (IsUpperOf v) (sym (contains_one u w x)) upper)
+    ]
 
-    pub adds_new : (waited waiting : List V2) → IsNarrow v → length new ≤ W → waiting ≡ waited ++ v ∷ [] → Adds W old v new waited waiting
+    pub adds_new : (waited waiting : List V2) → IsNarrow v → count_both new was ≤ W → waiting ≡ waited ++ u ∷ [] → Adds W old was v new was waited waiting
     adds_new waited waiting n h s = record {
-      more = v ∷ [];
+      more = u ∷ [];
       is = grown;
       waits = s;
-      here = subst (λ (x : List V2). Contains x v) (sym grown) (Contains-append_right old (v ∷ []) v (0, lit< tt, refl));
+      here = upper_held new was v u upper (subst (λ (x : List V2). Contains x u) (sym grown) (Contains-append_right old (u ∷ []) u (0, lit< tt, refl)));
       others = others;
-      different = different;
+      center = inl;
+      stays = λ h. h;
+      different = λ _. different;
       narrow = n;
       few = h;
     }
 
-    pub shows_many : (R : Area) → AreFound R W old → IsWitness R v → W < length new → AreTooMany R W new
-    shows_many R f h g = record {
-      witnesses = record { different = different; each = λ w c. elim (others w c) [ inl x ↦ f.witnesses.each w x | inr x ↦ subst (IsWitness R) (sym x) h ] };
-      many = let l : length new ≡ length old + 1 = ap length grown ∙ length-append old (v ∷ []) in omega (arith, l, f.few);
+    pub new_narrow : AreNarrow old → IsNarrow v → AreNarrow new
+    new_narrow a n w c = elim (others w c) [ inl x ↦ a w x | inr x ↦ upper_narrow v w x n ]
+
+    pub new_half : (R : Area) → AreHalf R old was → IsWitness R v → IsNarrow v → AreHalf R new was
+    new_half R a h n = record {
+      upper = λ w c. elim (others w c) [ inl x ↦ a.upper w x | inr x ↦ x.0 ];
+      different = different;
+      each = λ w c. elim (others w c) [ inl x ↦ a.each w x | inr x ↦ upper_witness R v w x h ];
+      narrow = new_narrow a.narrow n;
+      center = a.center;
     }
 
 module _ (R : Area) (W : ℕ) where
-  pub none_found : AreFound R W []
-  none_found = record {
-    witnesses = record { different = λ i j d h l. absurd (omega arith); each = λ w c. absurd (omega (arith, c.1)) };
+  pub none_half : (met : Bool) → met ≡ false → AreHalf R [] met
+  none_half met e = record {
+    upper = λ w c. absurd (omega (arith, c.1));
+    different = λ i j d h l. absurd (omega arith);
+    each = λ w c. absurd (omega (arith, c.1));
     narrow = λ w c. absurd (omega (arith, c.1));
-    few = omega arith;
+    center = λ t. absurd (false≢true (sym e ∙ t));
   }
 
-  pub extends_none : (old waited : List V2) → AreFound R W old → Extends R W old old waited waited
-  extends_none old waited f = record { more = []; is = sym (append-nil old); waits = sym (append-nil waited); found = f }
+  pub extends_none : (old : List V2) (was : Bool) (waited : List V2) → AreFound R W old was → Extends R W old was old was waited waited
+  extends_none old was waited f = record { more = []; is = sym (append-nil old); waits = sym (append-nil waited); stays = λ h. h; found = f }
 
-  pub extends_more : (old now new waited wait waiting : List V2) (v : V2) → Extends R W old now waited wait → IsWitness R v → Adds W now v new wait waiting → Extends R W old new waited waiting
-  extends_more old now new waited wait waiting v x h a = record {
+  pub extends_more : (old : List V2) (was : Bool) (now : List V2) (yet : Bool) (new : List V2) (met : Bool) (waited wait waiting : List V2) (v : V2)
+      → Extends R W old was now yet waited wait → IsWitness R v → Adds W now yet v new met wait waiting → Extends R W old was new met waited waiting
+  extends_more old was now yet new met waited wait waiting v x h a = record {
     more = x.more ++ a.more;
     is = a.is ∙ ap (λ (y : List V2). y ++ a.more) x.is ∙ append_assoc old x.more a.more;
     waits = a.waits ∙ ap (λ (y : List V2). y ++ a.more) x.waits ∙ append_assoc waited x.more a.more;
+    stays = λ t. a.stays (x.stays t);
     found = record {
-      witnesses = record {
-        different = a.different;
-        each = λ w c. elim (a.others w c) [ inl y ↦ x.found.witnesses.each w y | inr y ↦ subst (IsWitness R) (sym y) h ];
+      half = record {
+        upper = λ w c. elim (a.others w c) [ inl y ↦ x.found.half.upper w y | inr y ↦ y.0 ];
+        different = a.different x.found.half.different;
+        each = λ w c. elim (a.others w c) [ inl y ↦ x.found.half.each w y | inr y ↦ upper_witness R v w y h ];
+        narrow = λ w c. elim (a.others w c) [ inl y ↦ x.found.half.narrow w y | inr y ↦ upper_narrow v w y a.narrow ];
+        center = λ t. elim (a.center t) [ inl y ↦ x.found.half.center y | inr y ↦ subst (IsWitness R) y h ];
       };
-      narrow = λ w c. elim (a.others w c) [ inl y ↦ x.found.narrow w y | inr y ↦ subst IsNarrow (sym y) a.narrow ];
       few = a.few;
     };
   }
 
-pub adds_keep : (W : ℕ) (old : List V2) (v : V2) (new waited waiting : List V2) → Adds W old v new waited waiting → (w : V2) → Contains old w → Contains new w
-adds_keep W old v new waited waiting a w c = subst (λ (x : List V2). Contains x w) (sym a.is) (Contains-append_left old a.more w c)
+-- what is held stays so
+pub held_longer : (old : List V2) (was : Bool) (new : List V2) (met : Bool) (more : List V2) → new ≡ old ++ more → (IsTrue was → IsTrue met) → (w : V2) → IsHeld old was w → IsHeld new met w
+held_longer old was new met more e s w (inl c) = inl (subst (λ (x : List V2). Contains x w) (sym e) (Contains-append_left old more w c))
+held_longer old was new met more e s w (inr (inl c)) = inr (inl (subst (λ (x : List V2). Contains x (minus w)) (sym e) (Contains-append_left old more (minus w) c)))
+held_longer old was new met more e s w (inr (inr c)) = inr (inr (c.0, s c.1))
 
--- the four units, one after another
-module _ (W : ℕ) (k0 k1 k2 k3 k4 w0 w1 w2 w3 w4 : List V2) (e0 : k0 ≡ []) (f0 : w0 ≡ []) where
-  pub units_0 : (R : Area) → Extends R W [] k0 [] w0
-  units_0 R = record { more = []; is = e0; waits = f0; found = subst (AreFound R W) (sym e0) (none_found R W) }
+pub adds_keep : (W : ℕ) (old : List V2) (was : Bool) (v : V2) (new : List V2) (met : Bool) (waited waiting : List V2) → Adds W old was v new met waited waiting → (w : V2) → IsHeld old was w → IsHeld new met w
+adds_keep W old was v new met waited waiting a w c = held_longer old was new met a.more a.is a.stays w c
 
-  module _ (a1 : Adds W k0 (pair (pos 1) (pos 0)) k1 w0 w1) where
-    pub units_1 : (R : Area) → Extends R W [] k1 [] w1
-    units_1 R = extends_more R W [] k0 k1 [] w0 w1 _ (units_0 R) (unit right) a1
+-- the units, one after another
+module _ (W : ℕ) (k0 k1 k2 : List V2) (m0 m1 m2 : Bool) (w0 w1 w2 : List V2) (e0 : k0 ≡ []) (g0 : m0 ≡ false) (f0 : w0 ≡ []) where
+  none_yet : count_both k0 m0 ≤ W
+  none_yet = rw (e0, g0) (omega arith)
 
-    module _ (a2 : Adds W k1 (pair (negsuc 0) (pos 0)) k2 w1 w2) where
-      pub units_2 : (R : Area) → Extends R W [] k2 [] w2
-      units_2 R = extends_more R W [] k1 k2 [] w1 w2 _ (units_1 R) (unit left) a2
+  pub units_0 : (R : Area) → Extends R W [] false k0 m0 [] w0
+  units_0 R = record {
+    more = [];
+    is = e0;
+    waits = f0;
+    stays = λ t. absurd (false≢true t);
+    found = record { half = subst (λ (x : List V2). AreHalf R x m0) (sym e0) (none_half R W m0 g0); few = none_yet };
+  }
 
-      module _ (a3 : Adds W k2 (pair (pos 0) (pos 1)) k3 w2 w3) where
-        pub units_3 : (R : Area) → Extends R W [] k3 [] w3
-        units_3 R = extends_more R W [] k2 k3 [] w2 w3 _ (units_2 R) (unit up) a3
+  module _ (a1 : Adds W k0 m0 (pair (pos 1) (pos 0)) k1 m1 w0 w1) where
+    pub units_1 : (R : Area) → Extends R W [] false k1 m1 [] w1
+    units_1 R = extends_more R W [] false k0 m0 k1 m1 [] w0 w1 _ (units_0 R) (unit right) a1
 
-        module _ (a4 : Adds W k3 (pair (pos 0) (negsuc 0)) k4 w3 w4) where
-          pub units_4 : (R : Area) → Extends R W [] k4 [] w4
-          units_4 R = extends_more R W [] k3 k4 [] w3 w4 _ (units_3 R) (unit down) a4
+    module _ (a2 : Adds W k1 m1 (pair (pos 0) (pos 1)) k2 m2 w1 w2) where
+      pub units_2 : (R : Area) → Extends R W [] false k2 m2 [] w2
+      units_2 R = extends_more R W [] false k1 m1 k2 m2 [] w1 w2 _ (units_1 R) (unit up) a2
 
-          pub has_units : HasUnits k4
-          has_units w right = adds_keep W k3 _ k4 w3 w4 a4 w (adds_keep W k2 _ k3 w2 w3 a3 w (adds_keep W k1 _ k2 w1 w2 a2 w a1.here))
-          has_units w left = adds_keep W k3 _ k4 w3 w4 a4 w (adds_keep W k2 _ k3 w2 w3 a3 w a2.here)
-          has_units w up = adds_keep W k3 _ k4 w3 w4 a4 w a3.here
-          has_units w down = a4.here
+      pub has_units : HasUnits k2 m2
+      has_units w right = adds_keep W k1 m1 _ k2 m2 w1 w2 a2 w a1.here
+      has_units w left = mirror_held k2 m2 (pair (pos 1) (pos 0)) (adds_keep W k1 m1 _ k2 m2 w1 w2 a2 (pair (pos 1) (pos 0)) a1.here)
+      has_units w up = a2.here
+      has_units w down = mirror_held k2 m2 (pair (pos 0) (pos 1)) a2.here
 
 pub was_there : (r b : Bool) → r ≡ false → r ≡ not b → b ≡ true
 was_there r true e f = refl

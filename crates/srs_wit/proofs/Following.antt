@@ -1,5 +1,5 @@
 -- How all that one pair links to is added.
-use Rattle.std.proofs.Common.{◌≡◌, ◌≢◌, inl, inr, ℕ, ◌+◌, ◌<◌, ◌≤◌, List, length, ℤ, pos, ◌-ℤ◌, ◌≤ℤ◌, ◌<ℤ◌, ◌+ℤ◌, neg_ℤ, unsigned_abs, arith, ap, subst, sym, ◌∙◌, get_or}
+use Rattle.std.proofs.Common.{◌≡◌, ◌≢◌, inl, inr, ℕ, ◌+◌, ◌<◌, ◌≤◌, Bool, List, length, ℤ, pos, ◌-ℤ◌, ◌≤ℤ◌, ◌<ℤ◌, ◌+ℤ◌, neg_ℤ, unsigned_abs, arith, ap, subst, sym, ◌∙◌, get_or}
 use Rattle.std.specs.Prelude.{Contains, AllPairs}
 use Rattle.std.proofs.Math.Decide.{dec_lt}
 use Rattle.std.proofs.lemmas.Int.{ints}
@@ -12,6 +12,7 @@ use Rattle.srs_path.specs.Witnesses.{IsWitness, link}
 use Rattle.srs_cell.specs.Moves.{LinksTo, AreMoves}
 use Rattle.srs_wit.specs.Spans.{IsCount, pair_from, pairs_from}
 use Rattle.srs_wit.specs.Listing.{AreTooMany}
+use Rattle.srs_wit.specs.Halves.{IsHeld}
 use Rattle.srs_wit.specs.Search.{AreFound, Adds, Extends, IsClosedAt}
 use Rattle.srs_wit.proofs.Adding.{extends_none, extends_more, adds_keep}
 
@@ -29,29 +30,30 @@ place_of : (low j : ℤ) → low ≤ℤ j → (k : ℕ) × (low +ℤ pos k ≡ j
 place_of low j h = (unsigned_abs (j -ℤ low), omega (arith, ints))
 
 -- the first k pairs of w have been added
-pub record Adding (R : Area) (W : ℕ) (old : List V2) (w : V2) (low : ℤ) (k : ℕ) (now waited waiting : List V2) : Type 0 where
-  pub extends : Extends R W old now waited waiting
-  pub done : (j : ℕ) → j < k → Contains now (pair_from w low j)
+pub record Adding (R : Area) (W : ℕ) (old : List V2) (was : Bool) (w : V2) (low : ℤ) (k : ℕ) (now : List V2) (met : Bool) (waited waiting : List V2) : Type 0 where
+  pub extends : Extends R W old was now met waited waiting
+  pub done : (j : ℕ) → j < k → IsHeld now met (pair_from w low j)
 
-module _ (R : Area) (W : ℕ) (old : List V2) (w : V2) (low : ℤ) (waited : List V2) where
-  pub adding_none : AreFound R W old → Adding R W old w low 0 old waited waited
-  adding_none f = record { extends = extends_none R W old waited f; done = λ j h. absurd (omega arith) }
+module _ (R : Area) (W : ℕ) (old : List V2) (was : Bool) (w : V2) (low : ℤ) (waited : List V2) where
+  pub adding_none : AreFound R W old was → Adding R W old was w low 0 old was waited waited
+  adding_none f = record { extends = extends_none R W old was waited f; done = λ j h. absurd (omega arith) }
 
-  pub adding_more : (k : ℕ) (now new wait waiting : List V2) (v : V2) → Adding R W old w low k now waited wait → IsWitness R v → v ≡ pair_from w low k → Adds W now v new wait waiting → Adding R W old w low (k + 1) new waited waiting
-  adding_more k now new wait waiting v a h e s = record {
-    extends = extends_more R W old now new waited wait waiting v a.extends h s;
-    done = λ j l. elim (dec_lt j k) as (λ _. Contains new (pair_from w low j)) [
-      | yes b ↦ adds_keep W now v new wait waiting s (pair_from w low j) (a.done j b)
-      | no b ↦ let f : k ≡ j = omega arith in subst (Contains new) (e ∙ ap (pair_from w low) f) s.here
+  pub adding_more : (k : ℕ) (now : List V2) (yet : Bool) (new : List V2) (met : Bool) (wait waiting : List V2) (v : V2)
+      → Adding R W old was w low k now yet waited wait → IsWitness R v → v ≡ pair_from w low k → Adds W now yet v new met wait waiting → Adding R W old was w low (k + 1) new met waited waiting
+  adding_more k now yet new met wait waiting v a h e s = record {
+    extends = extends_more R W old was now yet new met waited wait waiting v a.extends h s;
+    done = λ j l. elim (dec_lt j k) as (λ _. IsHeld new met (pair_from w low j)) [
+      | yes b ↦ adds_keep W now yet v new met wait waiting s (pair_from w low j) (a.done j b)
+      | no b ↦ let f : k ≡ j = omega arith in subst (IsHeld new met) (e ∙ ap (pair_from w low) f) s.here
     ];
   }
 
-  pub all_added : (high : ℤ) (n k : ℕ) (now waiting : List V2) → AreMoves (LinksTo R) w low high → IsCount low high n → n ≤ k → Adding R W old w low k now waited waiting → IsClosedAt R now w
-  all_added high n k now waiting m c h a v e =
+  pub all_added : (high : ℤ) (n k : ℕ) (now : List V2) (met : Bool) (waiting : List V2) → AreMoves (LinksTo R) w low high → IsCount low high n → n ≤ k → Adding R W old was w low k now met waited waiting → IsClosedAt R now met w
+  all_added high n k now met waiting m c h a v e =
       let f = first_entry R w v e in
       let t = m.all v.b (subst (LinksTo R w) (sym f) e) in
       let p = place_of low v.b t.0 in
-      subst (Contains now) (ap (pair w.b) p.1 ∙ f) (a.done p.0 (before low high v.b p.0 n k p.1 t.1 c.past h))
+      subst (IsHeld now met) (ap (pair w.b) p.1 ∙ f) (a.done p.0 (before low high v.b p.0 n k p.1 t.1 c.past h))
     where
       before : (low high j : ℤ) (i n k : ℕ) → low +ℤ pos i ≡ j → j ≤ℤ high → high <ℤ (low +ℤ pos n) → n ≤ k → i < k
       before low high j i n k e a b h = omega (arith, ints)

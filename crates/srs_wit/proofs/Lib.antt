@@ -1,4 +1,5 @@
 pub mod Mirrored
+pub mod BothSides
 pub mod Adding
 pub mod Following
 pub mod Closing

@@ -2,3 +2,4 @@ pub mod Least
 pub mod Listing
 pub mod Spans
 pub mod Search
+pub mod Halves

@@ -1,39 +1,34 @@
 // The search for all witnesses of a cell.
-ghost use Rattle.std.specs.Prelude.{◌≡◌, ◌+◌, ◌≤◌, [], OnOk, IfOk, IfErr};
-ghost use Rattle.indexmap.specs.IndexSet.{index_set_len, IsEmpty};
+ghost use Rattle.std.specs.Prelude.{◌≡◌, ℕ, ◌+◌, ◌<◌, ◌≤◌, ◌^◌, false, [], take, MatchBool, OnOk, IfOk, IfErr};
+ghost use Rattle.indexmap.specs.IndexSet.{IsEmpty};
 ghost use Rattle.srs_map.specs.Step.{IsNarrow};
 ghost use Rattle.srs_plane.specs.Regions.{Area};
 ghost use Rattle.srs_path.specs.Witnesses.{IsWitness, IsSmall};
 ghost use Rattle.srs_wit.specs.Listing.{AreAllWitnesses, AreTooMany, IsExcess};
-ghost use Rattle.srs_wit.specs.Search.{AreFound, Adds, Extends, IsClosedAt, HasUnits, AreAll};
+ghost use Rattle.srs_wit.specs.Halves.{AreNarrow, count_both, with_opposites};
+ghost use Rattle.srs_wit.specs.Search.{AreHalf, AreFound, Adds, Extends, IsClosedAt, HasUnits, AreAll};
 
+use crate::halves::{upper, with_opposites};
 use crate::sets::{Big, WitErr, WitSet};
-use crate::spans::{count, first_pairs, is_narrow, pair_at};
+use crate::spans::{count, first_pairs, pair_at};
 use indexmap::IndexSet;
 use srs_cell::Cell;
+use srs_map::is_narrow;
 use srs_num::{NoMemory, Pairs, V2};
 use std::alloc::Global;
 
-// The witnesses that were found, and those of them whose links weren't followed yet, the newest last.
+// The witnesses that were found after (0,0), in the order by a and then by b; whether that is one of them; and those whose
+// links weren't followed yet, the newest last. Each stands for its mirror image too: -w is a witness where w is, since the
+// links of -w are the mirrored links of w.
 #[derive(Drop)]
 struct Search {
     found: IndexSet<V2>,
+    origin: bool,
     waiting: Vec<V2>,
 }
 
-// The pairs as a list of their own.
-fn copied(alloc: Global, pairs: &[V2]) -> Result<Pairs, NoMemory>
-    ensures { IfOk result (λ copy. copy ≡ pairs.now) }
-{
-    let mut copy = Pairs::new(alloc);
-    for w in pairs {
-        match copy.push(*w) {
-            Ok(()) => {}
-            Err(_) => return Err(NoMemory),
-        }
-    }
-    Ok(copy)
-}
+// The most pairs for which there is room at first.
+const ROOM: usize = 512;
 
 // The refusal that shows these witnesses.
 fn too_many(shown: Result<Pairs, NoMemory>, bound: u32) -> WitErr
@@ -46,35 +41,89 @@ fn too_many(shown: Result<Pairs, NoMemory>, bound: u32) -> WitErr
 }
 
 impl Search {
-    // Nothing found yet.
-    fn new(alloc: Global) -> Search
-        ensures found { IsEmpty result.found }
-        ensures waiting { result.waiting.items ≡ [] }
+    // Nothing found yet. There is room for as many as the bound allows, up to a table that costs little to make.
+    fn new(alloc: Global, bound: u32) -> Result<Search, WitErr>
+        ensures found { IfOk result (λ search. IsEmpty search.found) }
+        ensures origin { IfOk result (λ search. search.origin ≡ false) }
+        ensures waiting { IfOk result (λ search. search.waiting.items ≡ []) }
+        ensures excess { (R : Area) → IfErr result (IsExcess R bound) }
     {
-        Search {
-            found: IndexSet::new(alloc),
-            waiting: Vec::new(alloc),
-        }
+        let room = (bound as usize / 2 + 1).min(ROOM);
+        let Ok(found) = IndexSet::with_capacity(alloc, room) else {
+            return Err(WitErr::NoMemory);
+        };
+        let Ok(waiting) = Vec::with_capacity(alloc, room) else {
+            return Err(WitErr::NoMemory);
+        };
+        Ok(Search {
+            found,
+            origin: false,
+            waiting,
+        })
     }
 
-    // Adds a witness.
+    // How many witnesses were found, on both sides of (0,0).
+    fn count(&self) -> u64
+        requires { count_both self.now.found.keys self.now.origin ≤ 2 ^ 33 }
+        ensures { result ≡ count_both self.now.found.keys self.now.origin }
+    {
+        let half = self.found.len() as u64;
+        if self.origin { 2 * half + 1 } else { 2 * half }
+    }
+
+    // The first `n` of them.
+    fn first(&self, alloc: Global, n: u64) -> Result<Pairs, NoMemory>
+        requires narrow { AreNarrow self.now.found.keys }
+        requires few { n ≤ count_both self.now.found.keys self.now.origin }
+        ensures { IfOk result (λ ps. ps ≡ take n (with_opposites self.now.found.keys self.now.origin)) }
+    {
+        let all = with_opposites(alloc, self.found.as_slice(), self.origin)?;
+        Pairs::from_slice(alloc, &all[..n as usize])
+    }
+
+    // Whether they are more than the bound.
+    fn is_over(&self, bound: u32) -> bool
+        requires { count_both self.now.found.keys self.now.origin ≤ 2 ^ 33 }
+        ensures { MatchBool result (bound < count_both self.now.found.keys self.now.origin) (count_both self.now.found.keys self.now.origin ≤ bound) }
+    {
+        self.count() > bound as u64
+    }
+
+    // The refusal that shows one more of them than the bound.
+    fn excess(&self, alloc: Global, bound: u32) -> WitErr
+        requires narrow { AreNarrow self.now.found.keys }
+        requires many { bound < count_both self.now.found.keys self.now.origin }
+        ensures { (R : Area) → AreHalf R self.now.found.keys self.now.origin → IsExcess R bound result }
+    {
+        too_many(self.first(alloc, bound as u64 + 1), bound)
+    }
+
+    // Adds a witness, which stands for the one on the other side too.
     fn add(&mut self, alloc: Global, bound: u32, v: V2) -> Result<(), WitErr>
-        requires { index_set_len self.old.found ≤ bound }
-        ensures ok { OnOk result (Adds bound self.old.found.keys v self.new.found.keys self.old.waiting.items self.new.waiting.items) }
-        ensures excess { (R : Area) → AreFound R bound self.old.found.keys → IsWitness R v → IfErr result (IsExcess R bound) }
+        requires few { count_both self.old.found.keys self.old.origin ≤ bound }
+        requires narrow { AreNarrow self.old.found.keys }
+        ensures ok { OnOk result (Adds bound self.old.found.keys self.old.origin v self.new.found.keys self.new.origin self.old.waiting.items self.new.waiting.items) }
+        ensures excess { (R : Area) → AreFound R bound self.old.found.keys self.old.origin → IsWitness R v → IfErr result (IsExcess R bound) }
     {
         if !is_narrow(v) {
             return Err(WitErr::Large(Big::Wide(v)));
         }
-        match self.found.insert(v) {
+        let Some(u) = upper(v) else {
+            self.origin = true;
+            if self.is_over(bound) {
+                return Err(self.excess(alloc, bound));
+            }
+            return Ok(());
+        };
+        match self.found.insert(u) {
             Ok(true) => {}
             Ok(false) => return Ok(()),
             Err(_) => return Err(WitErr::NoMemory),
         }
-        if self.found.len() > bound as usize {
-            return Err(too_many(copied(alloc, self.found.as_slice()), bound));
+        if self.is_over(bound) {
+            return Err(self.excess(alloc, bound));
         }
-        match self.waiting.push(v) {
+        match self.waiting.push(u) {
             Ok(()) => Ok(()),
             Err(_) => Err(WitErr::NoMemory),
         }
@@ -83,15 +132,14 @@ impl Search {
     // Adds the units.
     fn add_units(&mut self, alloc: Global, bound: u32) -> Result<(), WitErr>
         requires found { IsEmpty self.old.found }
+        requires origin { self.old.origin ≡ false }
         requires waiting { self.old.waiting.items ≡ [] }
-        ensures found { (R : Area) → OnOk result (Extends R bound [] self.new.found.keys [] self.new.waiting.items) }
-        ensures units { OnOk result (HasUnits self.new.found.keys) }
+        ensures found { (R : Area) → OnOk result (Extends R bound [] false self.new.found.keys self.new.origin [] self.new.waiting.items) }
+        ensures units { OnOk result (HasUnits self.new.found.keys self.new.origin) }
         ensures excess { (R : Area) → IfErr result (IsExcess R bound) }
     {
         self.add(alloc, bound, V2 { a: 1, b: 0 })?;
-        self.add(alloc, bound, V2 { a: -1, b: 0 })?;
         self.add(alloc, bound, V2 { a: 0, b: 1 })?;
-        self.add(alloc, bound, V2 { a: 0, b: -1 })?;
         Ok(())
     }
 
@@ -99,9 +147,9 @@ impl Search {
     fn add_links(&mut self, alloc: Global, cell: &Cell, bound: u32, w: V2) -> Result<(), WitErr>
         requires narrow { IsNarrow w }
         requires witness { IsWitness cell.now w }
-        requires found { AreFound cell.now bound self.old.found.keys }
-        ensures extends { OnOk result (Extends cell.now bound self.old.found.keys self.new.found.keys self.old.waiting.items self.new.waiting.items) }
-        ensures closed { OnOk result (IsClosedAt cell.now self.new.found.keys w) }
+        requires found { AreFound cell.now bound self.old.found.keys self.old.origin }
+        ensures extends { OnOk result (Extends cell.now bound self.old.found.keys self.old.origin self.new.found.keys self.new.origin self.old.waiting.items self.new.waiting.items) }
+        ensures closed { OnOk result (IsClosedAt cell.now self.new.found.keys self.new.origin w) }
         ensures excess { IfErr result (IsExcess cell.now bound) }
     {
         let span = cell.links(w);
@@ -114,20 +162,32 @@ impl Search {
         }
         Ok(())
     }
+
+    // All the witnesses, ascending: the half is sorted, and the other half is its mirror image.
+    fn ascending(&self, alloc: Global) -> Result<Vec<V2>, NoMemory>
+        requires { AreNarrow self.now.found.keys }
+        ensures { (R : Area) (W : ℕ) → AreAll R W self.now.found.keys self.now.origin → IfOk result (λ all. AreAllWitnesses R all.items) }
+    {
+        let mut half = match Vec::from_slice(alloc, self.found.as_slice()) {
+            Ok(half) => half,
+            Err(_) => return Err(NoMemory),
+        };
+        half.sort_unstable();
+        with_opposites(alloc, &half, self.origin)
+    }
 }
 
-// All witnesses, in the order in which they were met. The newest pair goes first: where there are too many, this way
-// mostly meets them sooner.
-fn find_all(alloc: Global, cell: &Cell, bound: u32) -> Result<IndexSet<V2>, WitErr>
-    ensures all { IfOk result (λ found. AreAll cell.now bound found.keys) }
+// All witnesses. The newest pair goes first: where there are too many, this way mostly meets them sooner.
+fn find_all(alloc: Global, cell: &Cell, bound: u32) -> Result<Search, WitErr>
+    ensures all { IfOk result (λ search. AreAll cell.now bound search.found.keys search.origin) }
     ensures excess { IfErr result (IsExcess cell.now bound) }
 {
-    let mut search = Search::new(alloc);
+    let mut search = Search::new(alloc, bound)?;
     search.add_units(alloc, bound)?;
     while let Some(w) = search.waiting.pop() {
         search.add_links(alloc, cell, bound, w)?;
     }
-    Ok(search.found)
+    Ok(search)
 }
 
 /// The witnesses of the cell, for a bound `w` from 1 to 16384 on their number.
@@ -140,12 +200,9 @@ pub fn witnesses(alloc: Global, cell: &Cell, w: u32) -> Result<WitSet, WitErr>
     ensures small { OnOk result (IsSmall cell.now w) }
     ensures large { IfErr result (IsExcess cell.now w) }
 {
-    let found = find_all(alloc, cell, w)?;
-    match Vec::from_slice(alloc, found.as_slice()) {
-        Ok(mut pairs) => {
-            pairs.sort_unstable();
-            Ok(WitSet::new(pairs))
-        }
+    let search = find_all(alloc, cell, w)?;
+    match search.ascending(alloc) {
+        Ok(pairs) => Ok(WitSet::new(pairs)),
         Err(_) => Err(WitErr::NoMemory),
     }
 }

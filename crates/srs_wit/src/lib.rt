@@ -3,6 +3,7 @@
 #![tactic(auto)]
 
 mod closure;
+mod halves;
 pub mod laws;
 mod sets;
 mod spans;

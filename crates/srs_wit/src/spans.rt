@@ -8,15 +8,6 @@ use srs_cell::Span;
 use srs_num::{NoMemory, Pairs, V2};
 use std::alloc::Global;
 
-const WIDEST: i64 = 1 << 37;
-
-// Whether both entries are within 2^37.
-pub(crate) fn is_narrow(w: V2) -> bool
-    ensures { IsTrue result ↔ IsNarrow w }
-{
-    -WIDEST <= w.a && w.a <= WIDEST && -WIDEST <= w.b && w.b <= WIDEST
-}
-
 // How many numbers a span has.
 pub(crate) fn count(span: Span) -> u64
     requires low { IsWithin (2 ^ 41) span.low }

@@ -1,9 +1,10 @@
-use Rattle.std.proofs.Common.{◌≡◌, ◌++◌, ◌∷◌, [], arith, ap, ◌∙◌}
+use Rattle.std.proofs.Common.{◌≡◌, ◌<◌, ◌+◌, ◌^◌, ◌++◌, ◌∷◌, [], ℕ, Some, slice_get, length, arith, refl, sym, ap, ◌∙◌, subst, w32, Fits}
 use Rattle.std.proofs.lemmas.Grind.{common_steps}
 use Rattle.srs_path.specs.Views.{Entry}
+use Rattle.srs_path.specs.declared.outcomes.Outcome.{Outcome}
 use Rattle.srs_file.specs.Heights.{height}
-use Rattle.srs_file.specs.Certificates.{CertView}
-use Rattle.srs_file.proofs.NodeLines.{lines_start, lines_more, lines_fit}
+use Rattle.srs_file.specs.Certificates.{CertView, IsInRange}
+use Rattle.srs_file.proofs.NodeLines.{LinesSoFar, lines_start, lines_more, lines_fit, all_ranges}
 use Rattle.srs_file.proofs.certificates.lines_of.Goals as goal
 
 pub loop-i-init : goal.loop-i-init
@@ -16,7 +17,7 @@ overflow_add-line-in-loop-i c =
     let view : CertView = record { vertices = c.args.vertices.now; limits = c.args.limits.now; events = c.args.events.now } in
     let e : Entry = c.get.result.now in
     let outcome : c.deref.result.now ≡ e.outcome = rw (← c.behind-events.view_is) c.deref.ensures in
-    let more : c.height_of-line.result ≡ height e.outcome = c.height_of-line.ensures ∙ ap height outcome in
+    let more : c.height_of-line.result ≡ height e.outcome = c.height_of-line.ensures.height ∙ ap height outcome in
     let fits = lines_fit view c.loop-i.lines.items c.loop-i.i c.loop-i.line e c.loop-i.invariant c.wits-line.ensures.budget c.requires.within c.get.ensures in
     omega (arith, more, fits)
 
@@ -25,6 +26,11 @@ loop-i-preserved c =
     let view : CertView = record { vertices = c.args.vertices.now; limits = c.args.limits.now; events = c.args.events.now } in
     let e : Entry = c.get.result.now in
     let outcome : c.deref.result.now ≡ e.outcome = rw (← c.behind-events.view_is) c.deref.ensures in
-    let more : c.height_of-line.result ≡ height e.outcome = c.height_of-line.ensures ∙ ap height outcome in
+    let more : c.height_of-line.result ≡ height e.outcome = c.height_of-line.ensures.height ∙ ap height outcome in
     let pushed : c.push.new.self.items ≡ c.loop-i.lines.items ++ c.loop-i.line ∷ [] = grind (arith, common_steps) in
-    rw (pushed, more) (lines_more view c.loop-i.lines.items c.loop-i.i c.loop-i.line e c.loop-i.invariant c.requires.within c.get.ensures)
+    rw (pushed, more) (lines_more view c.loop-i.lines.items c.loop-i.i c.loop-i.line e c.loop-i.invariant c.requires.within c.get.ensures (subst IsInRange outcome c.height_of-line.ensures.range))
+
+pub returns-clause-ranges : goal.returns-clause-ranges
+returns-clause-ranges c =
+    let view : CertView = record { vertices = c.args.vertices.now; limits = c.args.limits.now; events = c.args.events.now } in
+    all_ranges view c.loop-i.lines.items c.loop-i.i c.loop-i.line c.loop-i.invariant (omega arith)

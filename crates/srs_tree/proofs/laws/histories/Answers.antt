@@ -6,6 +6,7 @@ use Rattle.srs_tree.proofs.PlannedSteps.{outcome_of_event}
 use Rattle.srs_tree.proofs.PlannedWhole.{IsWhole-planned, IsInRounds-planned}
 use Rattle.srs_tree.proofs.StandsLemmas.{Stands-some, Stands-once, Stands-append}
 use Rattle.srs_tree.proofs.QueueLemmas.{queue_open, done}
+use Rattle.srs_tree.proofs.RoundQueue.{queue_in_order}
 use Rattle.srs_tree.proofs.laws.histories.Goals as goal
 
 pub returns : goal.returns
@@ -18,6 +19,7 @@ returns c = record {
       (t.0, t.1, λ w s. Stands-once Root H H w t.0 s t.1 (λ p. refl));
   grows = Stands-append;
   queue = queue_open;
+  order = λ Root L H planned. (queue_in_order Root L H planned).order;
   ends = done;
   whole = λ Root L H planned each. (IsWhole-planned Root L H planned each, IsInRounds-planned Root L H planned);
 }

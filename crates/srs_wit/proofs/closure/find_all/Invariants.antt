@@ -3,7 +3,7 @@ use Rattle.srs_wit.proofs.Closing.{Closing}
 use Rattle.srs_wit.proofs.closure.find_all.Given as goal
 
 abbrev pub invariant-loop-w : goal.invariant-loop-w
-invariant-loop-w l = Closing l.cell l.bound l.search.found.keys l.search.waiting.items
+invariant-loop-w l = Closing l.cell l.bound l.search.found.keys l.search.origin l.search.waiting.items
 
 -- the pairs that may still be found, and those that wait
 abbrev pub decreases-loop-w : goal.decreases-loop-w

@@ -3,7 +3,7 @@ use Rattle.srs_path.specs.Witnesses.{IsWitness}
 use Rattle.srs_wit.specs.Listing.{AreTooMany, IsExcess}
 use Rattle.srs_wit.specs.Spans.{pairs_from}
 use Rattle.srs_wit.proofs.Adding.{shown_along}
-use Rattle.srs_wit.proofs.Following.{adding_none, adding_more, all_added, witness_at, span_shows_many}
+use Rattle.srs_wit.proofs.Following.{adding_more, all_added, witness_at, span_shows_many}
 use Rattle.srs_wit.proofs.closure.Search.add_links.Goals as goal
 
 pub returns-then-n-bound-clause-excess : goal.returns-then-n-bound-clause-excess
@@ -12,15 +12,12 @@ returns-then-n-bound-clause-excess c =
     (shown_along (AreTooMany c.args.cell.now c.args.bound) (pairs_from c.args.w c.links-span.result.low (c.args.bound + 1)) c.first_pairs.result c.first_pairs.ensures
     (span_shows_many c.args.cell.now c.args.w c.links-span.result.low c.links-span.result.high c.count-n.result c.links-span.ensures c.count-n.ensures c.requires.witness c.args.bound (omega arith)))
 
-pub loop-k-init : goal.loop-k-init
-loop-k-init c = adding_none c.args.cell.now c.args.bound c.args.self.now.found.keys c.args.w c.links-span.result.low c.args.self.now.waiting.items c.requires.found
-
 pub loop-k-preserved : goal.loop-k-preserved
 loop-k-preserved c =
     let h : IsWitness c.args.cell.now c.pair_at.result = subst (IsWitness c.args.cell.now) (sym c.pair_at.ensures)
     (witness_at c.args.cell.now c.args.w c.links-span.result.low c.links-span.result.high c.count-n.result c.links-span.ensures c.count-n.ensures c.requires.witness c.loop-k.k (omega arith)) in
-    adding_more c.args.cell.now c.args.bound c.args.self.now.found.keys c.args.w c.links-span.result.low c.args.self.now.waiting.items c.loop-k.k
-    c.loop-k.self.found.keys c.add.new.self.found.keys c.loop-k.self.waiting.items c.add.new.self.waiting.items c.pair_at.result c.loop-k.invariant h c.pair_at.ensures c.in_ok-add.ensures.ok
+    adding_more c.args.cell.now c.args.bound c.args.self.now.found.keys c.args.self.now.origin c.args.w c.links-span.result.low c.args.self.now.waiting.items c.loop-k.k
+    c.loop-k.self.found.keys c.loop-k.self.origin c.add.new.self.found.keys c.add.new.self.origin c.loop-k.self.waiting.items c.add.new.self.waiting.items c.pair_at.result c.loop-k.invariant h c.pair_at.ensures c.in_ok-add.ensures.ok
 
 pub returns-in_err-add-clause-excess : goal.returns-in_err-add-clause-excess
 returns-in_err-add-clause-excess c =
@@ -31,5 +28,5 @@ returns-in_err-add-clause-excess c =
 
 pub returns-clause-closed : goal.returns-clause-closed
 returns-clause-closed c =
-    all_added c.args.cell.now c.args.bound c.args.self.now.found.keys c.args.w c.links-span.result.low c.args.self.now.waiting.items c.links-span.result.high c.count-n.result c.loop-k.k
-    c.loop-k.self.found.keys c.loop-k.self.waiting.items c.links-span.ensures c.count-n.ensures (omega arith) c.loop-k.invariant
+    all_added c.args.cell.now c.args.bound c.args.self.now.found.keys c.args.self.now.origin c.args.w c.links-span.result.low c.args.self.now.waiting.items c.links-span.result.high c.count-n.result c.loop-k.k
+    c.loop-k.self.found.keys c.loop-k.self.origin c.loop-k.self.waiting.items c.links-span.ensures c.count-n.ensures (omega arith) c.loop-k.invariant

@@ -1,0 +1,123 @@
+-- Reading a certificate: its version, the number of vertices, the vertices, the limits, the tree, and `end`.
+use Rattle.std.specs.Prelude.{◌≡◌, ◌≢◌, ◌⊎◌, ⊤, ℕ, ◌<◌, ℤ, pos, List, [], ◌∷◌, None, codes}
+use Rattle.srs_path.specs.Views.{Budget, IsBudget}
+use Rattle.srs_line.specs.declared.slip.Slip.{Slip}
+use Rattle.srs_line.specs.declared.slip.Slip.TheVariants.{Word, Version, Range}
+use Rattle.srs_line.specs.declared.slip.FileErr.{FileErr}
+use Rattle.srs_line.specs.declared.slip.FileErr.TheVariants.{At, NoMemory}
+use Rattle.srs_line.specs.Fields.{Says, IsFieldSlip}
+use Rattle.srs_line.specs.Machine.{IsRead, SlipsAt}
+use Rattle.srs_line.specs.Refusal.{IsRefused}
+use Rattle.srs_file.specs.declared.tree.Tree.{Tree}
+use Rattle.srs_file.specs.declared.cert_reader.CertPhase.{CertPhase}
+use Rattle.srs_file.specs.declared.cert_reader.CertPhase.TheVariants.{First, Head, Vertices, Nodes, Done}
+use Rattle.srs_file.specs.declared.cert_reader.CertReader.{CertReader}
+use Rattle.srs_file.specs.Grammar.{SpellsCertificate}
+use Rattle.srs_file.specs.Certificates.{CertView}
+use Rattle.srs_file.specs.Ring.{RingView, Opens, IsOpenSlip, TakesVertex, SlipsVertex}
+use Rattle.srs_file.specs.TreeReading.{no_tree, only_root, TakesLine, SlipsLine}
+
+-- the first line says the version, which is 1
+abbrev pub StepsFirst : CertReader → List ℕ → CertReader → Type 0
+StepsFirst old line new = Says (codes "srs") (pos 1 ∷ []) line × (new ≡ record old { phase = Head })
+
+abbrev pub SlipsFirst : List ℕ → Slip → ℕ → Type 0
+SlipsFirst line slip back =
+    (IsFieldSlip (codes "srs") 1 line slip ⊎ ((z : ℤ) × Says (codes "srs") (z ∷ []) line × (z ≢ pos 1) × (slip ≡ Version))) × (back ≡ 0)
+
+-- the second line opens the ring
+abbrev pub StepsHead : CertReader → List ℕ → CertReader → Type 0
+StepsHead old line new = (ring : RingView) × Opens line ring × (new ≡ record old { phase = Vertices; ring = ring })
+
+abbrev pub SlipsHead : List ℕ → Slip → ℕ → Type 0
+SlipsHead line slip back = IsOpenSlip line slip × (back ≡ 0)
+
+-- the line says the limits, in their ranges
+abbrev pub SaysLimits : Budget → List ℕ → Type 0
+SaysLimits b line = Says (codes "limits") (pos b.depth ∷ pos b.cells ∷ pos b.wits ∷ []) line × IsBudget b
+
+-- the three numbers are no limits
+abbrev pub AreNoLimits : ℤ → ℤ → ℤ → Type 0
+AreNoLimits d c w = (b : Budget) → IsBudget b → d ≡ pos b.depth → c ≡ pos b.cells → w ≡ pos b.wits → ⊥
+
+abbrev pub IsLimitsSlip : List ℕ → Slip → Type 0
+IsLimitsSlip line slip =
+    IsFieldSlip (codes "limits") 3 line slip ⊎ ((d : ℤ) × (c : ℤ) × (w : ℤ) × Says (codes "limits") (d ∷ c ∷ w ∷ []) line × AreNoLimits d c w × (slip ≡ Range))
+
+-- the tree begins with the root
+abbrev pub StepsLimits : CertReader → List ℕ → CertReader → Type 0
+StepsLimits old line new = (b : Budget) × SaysLimits b line × (new ≡ record old { phase = Nodes; tree = only_root b })
+
+-- a vertex where one is to come, and else the limits
+abbrev pub StepsVertices : CertReader → List ℕ → CertReader → Type 0
+StepsVertices old line new =
+    ((0 < old.ring.left) × (ring : RingView) × TakesVertex old.ring line ring × (new ≡ record old { ring = ring }))
+    ⊎ ((old.ring.left ≡ 0) × StepsLimits old line new)
+
+abbrev pub SlipsVertices : CertReader → List ℕ → Slip → ℕ → Type 0
+SlipsVertices old line slip back =
+    ((0 < old.ring.left) × SlipsVertex old.ring line slip back) ⊎ ((old.ring.left ≡ 0) × IsLimitsSlip line slip × (back ≡ 0))
+
+-- a line of the tree where a cell waits, and else `end`
+abbrev pub StepsNodes : CertReader → List ℕ → CertReader → Type 0
+StepsNodes old line new =
+    ((old.tree.pending ≢ []) × (tree : Tree) × TakesLine old.tree line tree × (new ≡ record old { tree = tree }))
+    ⊎ ((old.tree.pending ≡ []) × (line ≡ codes "end") × (new ≡ record old { phase = Done }))
+
+abbrev pub SlipsNodes : CertReader → List ℕ → Slip → ℕ → Type 0
+SlipsNodes old line slip back =
+    ((old.tree.pending ≢ []) × SlipsLine old.tree line slip back)
+    ⊎ ((old.tree.pending ≡ []) × (line ≢ codes "end") × (slip ≡ Word) × (back ≡ 0))
+
+-- what a good line does in each phase
+abbrev pub StepsFrom : CertPhase → CertReader → List ℕ → CertReader → Type 0
+StepsFrom First old line new = StepsFirst old line new
+StepsFrom Head old line new = StepsHead old line new
+StepsFrom Vertices old line new = StepsVertices old line new
+StepsFrom Nodes old line new = StepsNodes old line new
+StepsFrom Done old line new = ⊥
+
+-- what is wrong with a line in each phase
+abbrev pub SlipsFrom : CertPhase → CertReader → List ℕ → Slip → ℕ → Type 0
+SlipsFrom First old line slip back = SlipsFirst line slip back
+SlipsFrom Head old line slip back = SlipsHead line slip back
+SlipsFrom Vertices old line slip back = SlipsVertices old line slip back
+SlipsFrom Nodes old line slip back = SlipsNodes old line slip back
+SlipsFrom Done old line slip back = ⊥
+
+-- what a good line does
+abbrev pub CertSteps : CertReader → List ℕ → CertReader → Type 0
+CertSteps old line new = StepsFrom old.phase old line new
+
+-- what is wrong with a line
+abbrev pub CertSlips : CertReader → List ℕ → Slip → ℕ → Type 0
+CertSlips old line slip back = SlipsFrom old.phase old line slip back
+
+-- the line `end` was read
+abbrev pub CertEnds : CertReader → Type 0
+CertEnds reader = reader.phase ≡ Done
+
+-- a reader before the first line
+abbrev pub cert_start : CertReader
+cert_start = record { phase = First; ring = record { left = 0; vertices = []; region = None }; tree = no_tree }
+
+-- what was read
+abbrev pub read_view : CertReader → CertView
+read_view reader = record { vertices = reader.ring.vertices; limits = reader.tree.limits; events = reader.tree.events }
+
+-- line by line, the text gives this certificate
+abbrev pub ReadsAsCert : List ℕ → CertView → Type 0
+ReadsAsCert text c = (last : CertReader) × IsRead CertSteps CertEnds cert_start text last × (read_view last ≡ c)
+
+-- the first slip of the text, and its line
+abbrev pub FirstCertSlip : List ℕ → ℕ → Slip → Type 0
+FirstCertSlip text line slip = SlipsAt CertSteps CertSlips CertEnds cert_start text line slip
+
+-- the first slip of the text, or want of memory
+abbrev pub IsCertRefusal : List ℕ → FileErr → Type 0
+IsCertRefusal text error = IsRefused CertSteps CertSlips CertEnds cert_start text error
+
+-- the text is that of no certificate, unless memory was wanting
+abbrev pub IsNoCert : List ℕ → FileErr → Type 0
+IsNoCert text (At line slip) = (c : CertView) → SpellsCertificate text c → ⊥
+IsNoCert text NoMemory = ⊤

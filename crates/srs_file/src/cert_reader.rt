@@ -1,0 +1,198 @@
+// Reads the text of a certificate.
+ghost use Rattle.std.specs.Prelude.{List, ℕ, ℤ, ◌≡◌, ◌≢◌, ◌↔◌, ◌+◌, ◌^◌, ◌<◌, [], ◌∷◌, pos, IsTrue, OnOk, IfOk, IfErr, IfSome, IfNone, length};
+ghost use Rattle.srs_path.specs.Views.{Budget, IsBudget};
+ghost use Rattle.srs_line.specs.declared.slip.Slip.{Slip};
+ghost use Rattle.srs_line.specs.Refusal.{IsSlip};
+ghost use Rattle.srs_file.specs.Grammar.{SpellsCertificate};
+ghost use Rattle.srs_file.specs.Certificates.{CertView, IsCertificate, cert_text};
+ghost use Rattle.srs_file.specs.CertReading.{cert_start, StepsFirst, SlipsFirst, StepsHead, SlipsHead, SaysLimits, AreNoLimits, IsLimitsSlip, StepsLimits, StepsVertices, SlipsVertices, StepsNodes, SlipsNodes, ReadsAsCert, FirstCertSlip, IsCertRefusal, IsNoCert};
+
+use crate::{Cert, Ring, Tree};
+use srs_line::{FileErr, LineErr, LineMachine, Slip, never_both, one, one_slip, read_lines, read_once, three};
+use srs_path::Limits;
+use std::alloc::Global;
+
+/// What a reader of a certificate waits for: the version, the number of vertices, a vertex or the limits, a line of the
+/// tree or the last line, or nothing.
+#[derive(Clone, Copy, Debug, PartialEq, Eq)]
+pub enum CertPhase {
+    First,
+    Head,
+    Vertices,
+    Nodes,
+    Done,
+}
+
+/// A reader of the text of a certificate, which takes it line by line.
+#[derive(Drop)]
+pub struct CertReader {
+    pub phase: CertPhase,
+    pub ring: Ring,
+    pub tree: Tree,
+}
+
+impl CertReader {
+    /// A reader before the first line. It takes no memory.
+    pub fn new(alloc: Global) -> CertReader
+        ensures { result ≡ cert_start }
+    {
+        CertReader {
+            phase: CertPhase::First,
+            ring: Ring::new(alloc),
+            tree: Tree::new(alloc),
+        }
+    }
+
+    fn first(&mut self, line: &[u8]) -> Result<(), LineErr>
+        ensures ok { OnOk result (StepsFirst self.old line.now self.new) }
+        ensures err { IfErr result (IsSlip (SlipsFirst line.now)) }
+    {
+        match one(line, b"srs") {
+            Ok(version) => {
+                if version != 1 {
+                    return Err(LineErr::Slip(Slip::Version, 0));
+                }
+                self.phase = CertPhase::Head;
+                Ok(())
+            }
+            Err(slip) => Err(LineErr::Slip(slip, 0)),
+        }
+    }
+
+    fn head(&mut self, line: &[u8]) -> Result<(), LineErr>
+        ensures ok { OnOk result (StepsHead self.old line.now self.new) }
+        ensures err { IfErr result (IsSlip (SlipsHead line.now)) }
+    {
+        match self.ring.open(line) {
+            Ok(()) => {
+                self.phase = CertPhase::Vertices;
+                Ok(())
+            }
+            Err(slip) => Err(LineErr::Slip(slip, 0)),
+        }
+    }
+
+    fn vertex(&mut self, line: &[u8]) -> Result<(), LineErr>
+        ensures ok { OnOk result (StepsVertices self.old line.now self.new) }
+        ensures err { IfErr result (IsSlip (SlipsVertices self.old line.now)) }
+    {
+        if self.ring.wants_more() {
+            return self.ring.take(line);
+        }
+        self.limits(line)
+    }
+
+    fn limits(&mut self, line: &[u8]) -> Result<(), LineErr>
+        ensures ok { OnOk result (StepsLimits self.old line.now self.new) }
+        ensures err { IfErr result (IsSlip (λ slip back. IsLimitsSlip line.now slip × (back ≡ 0))) }
+    {
+        let limits = match limits(line) {
+            Ok(limits) => limits,
+            Err(slip) => return Err(LineErr::Slip(slip, 0)),
+        };
+        match self.tree.plant(limits) {
+            Ok(()) => {
+                self.phase = CertPhase::Nodes;
+                Ok(())
+            }
+            Err(_) => Err(LineErr::NoMemory),
+        }
+    }
+
+    fn node(&mut self, line: &[u8]) -> Result<(), LineErr>
+        ensures ok { OnOk result (StepsNodes self.old line.now self.new) }
+        ensures err { IfErr result (IsSlip (SlipsNodes self.old line.now)) }
+    {
+        if !self.tree.is_whole() {
+            return self.tree.take(line);
+        }
+        if line != b"end".as_slice() {
+            return Err(LineErr::Slip(Slip::Word, 0));
+        }
+        self.phase = CertPhase::Done;
+        Ok(())
+    }
+}
+
+impl LineMachine for CertReader {
+    ghost use Rattle.srs_file.specs.CertReading.{CertSteps, CertSlips, CertEnds};
+
+    ghost steps = { CertSteps };
+
+    ghost slips = { CertSlips };
+
+    ghost is_end = { CertEnds };
+
+    fn is_done(&self) -> bool {
+        self.phase == CertPhase::Done
+    }
+
+    fn take(&mut self, line: &[u8]) -> Result<(), LineErr> {
+        match self.phase {
+            CertPhase::First => self.first(line),
+            CertPhase::Head => self.head(line),
+            CertPhase::Vertices => self.vertex(line),
+            CertPhase::Nodes => self.node(line),
+            CertPhase::Done => unreachable!(),
+        }
+    }
+}
+
+// Reads the line of the limits.
+fn limits(line: &[u8]) -> Result<Limits, Slip>
+    ensures ok { IfOk result (λ b. SaysLimits b line.now) }
+    ensures err { IfErr result (IsLimitsSlip line.now) }
+{
+    let said = match three(line, b"limits") {
+        Ok(said) => said,
+        Err(slip) => return Err(slip),
+    };
+    match limits_of(said.0, said.1, said.2) {
+        Some(limits) => Ok(limits),
+        None => Err(Slip::Range),
+    }
+}
+
+// The three numbers as limits.
+fn limits_of(depth: i64, cells: i64, wits: i64) -> Option<Limits>
+    ensures some { IfSome result (λ b. (depth ≡ pos b.depth) × (cells ≡ pos b.cells) × (wits ≡ pos b.wits) × IsBudget b) }
+    ensures none { IfNone result (AreNoLimits depth cells wits) }
+{
+    if depth < 0 || depth > 48 || cells < 0 || cells > 65536 || wits < 0 || wits > 16384 {
+        return None;
+    }
+    Limits::new(depth as u32, cells as u32, wits as u32)
+}
+
+/// The certificate that the text spells, or the first slip of the text, its lines counted from 1. The text is shorter than
+/// 2^32 - 1 bytes.
+pub fn read_cert(alloc: Global, text: &[u8]) -> Result<Cert, FileErr>
+    requires { length text.now + 1 < 2 ^ 32 }
+    ensures accepted { IfOk result (λ c. SpellsCertificate text.now c) }
+    ensures refused { IfErr result (IsCertRefusal text.now) }
+    ensures outside { IfErr result (IsNoCert text.now) }
+{
+    let mut reader = CertReader::new(alloc);
+    read_lines(&mut reader, text)?;
+    let (vertices, _) = reader.ring.into_parts();
+    let (limits, events) = reader.tree.into_parts();
+    match Cert::new(alloc, vertices.as_slice(), limits, events) {
+        Ok(cert) => Ok(cert),
+        Err(_) => Err(FileErr::NoMemory),
+    }
+}
+
+/// A text is that of a certificate or has a first slip, never both; it has one first slip, and spells one certificate; and
+/// it is read as this certificate exactly where it spells it. So the one text of a certificate is read as that certificate.
+pub fn one_certificate()
+    ensures never_both { (text : List ℕ) (c : CertView) (line : ℕ) (slip : Slip) → SpellsCertificate text c → FirstCertSlip text line slip → ⊥ }
+    ensures one_slip { (text : List ℕ) (m n : ℕ) (d e : Slip) → FirstCertSlip text m d → FirstCertSlip text n e → (m ≡ n) × (d ≡ e) }
+    ensures one_value { (text : List ℕ) (b c : CertView) → SpellsCertificate text b → SpellsCertificate text c → b ≡ c }
+    ensures spelled { (text : List ℕ) (c : CertView) → ReadsAsCert text c → SpellsCertificate text c }
+    ensures read { (text : List ℕ) (c : CertView) → SpellsCertificate text c → ReadsAsCert text c }
+    ensures back { (c : CertView) → IsCertificate c → ReadsAsCert (cert_text c) c }
+{
+    never_both::<CertReader>();
+    one_slip::<CertReader>();
+    read_once::<CertReader>();
+}

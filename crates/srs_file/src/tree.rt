@@ -1,0 +1,296 @@
+// The tree of a certificate, read line by line.
+ghost use Rattle.std.specs.Prelude.{◌≡◌, ◌≢◌, ◌↔◌, ◌+◌, ◌<◌, ◌≤◌, ◌++◌, [], ◌∷◌, pos, ℤ, length, IsTrue, IfErr, IfSome, IfNone, OnOk, codes};
+ghost use Rattle.srs_path.specs.declared.paths.Side.TheVariants.{Ge as AtGe, Lt as AtLt};
+ghost use Rattle.srs_path.specs.declared.outcomes.Cause.{Cause};
+ghost use Rattle.srs_line.specs.Refusal.{IsSlip};
+ghost use Rattle.srs_file.specs.TreeReading.{left_line, no_tree, only_root, Settles, Divides, SlipsDivide, HasRoom, CutsBy, SlipsCutBy, StepsCut, SlipsCut, StepsIn, SlipsIn, Counts, StepsOut, SlipsOut, StepsLeft, SlipsLeft, StepsNode, SlipsNode, StepsEntry, TakesLine, SlipsLine};
+ghost use Rattle.srs_file.specs.Leaf.{SlipsEntry};
+
+use crate::{Events, Leaf, PathStack};
+use srs_line::{LineErr, Slip, count_of, has_word, numbers_of, three};
+use srs_num::Form;
+use srs_path::{Cause, Cycle, Limits, Outcome, Path, Side, Why};
+use srs_text::Nums;
+use srs_tree::Journal;
+use std::alloc::Global;
+
+/// A tree while its lines are read, in preorder: its limits, how many cells it has so far, the cells that wait for their
+/// event, the inside leaf at hand, and the events so far.
+#[derive(Drop)]
+pub struct Tree {
+    pub limits: Limits,
+    pub cells: u32,
+    pub pending: PathStack,
+    pub leaf: Leaf,
+    pub events: Events,
+}
+
+impl Tree {
+    /// A tree without a cell. It takes no memory.
+    pub fn new(alloc: Global) -> Tree
+        ensures { result ≡ no_tree }
+    {
+        Tree {
+            limits: least_limits(),
+            cells: 0,
+            pending: PathStack::new(alloc),
+            leaf: Leaf::new(alloc),
+            events: Events::new(alloc),
+        }
+    }
+
+    /// Begins anew with the root alone. An `Err` is want of memory, and changes nothing.
+    pub fn plant(&mut self, limits: Limits) -> Result<(), LineErr>
+        ensures ok { OnOk result (self.new ≡ only_root limits) }
+        ensures err { IfErr result (IsSlip (λ slip back. ⊥)) }
+    {
+        let alloc = self.events.alloc();
+        let mut pending = PathStack::new(alloc);
+        match pending.push(Path::root()) {
+            Ok(()) => {}
+            Err(e) => return Err(e),
+        }
+        *self = Tree {
+            limits,
+            cells: 1,
+            pending,
+            leaf: Leaf::new(alloc),
+            events: Events::new(alloc),
+        };
+        Ok(())
+    }
+
+    /// Whether each cell has its event.
+    pub fn is_whole(&self) -> bool
+        ensures { IsTrue result ↔ (self.now.pending ≡ []) }
+    {
+        self.pending.is_empty()
+    }
+
+    /// The limits, and the events so far.
+    pub fn into_parts(self) -> (Limits, Journal)
+        ensures limits { result.0 ≡ self.limits }
+        ensures events { result.1 ≡ self.events }
+    {
+        (self.limits, self.events.into_journal())
+    }
+
+    /// Takes the next line: of a witness where one is to come, and else of a node. An `Err` may leave any tree.
+    pub fn take(&mut self, line: &[u8]) -> Result<(), LineErr>
+        requires { self.old.pending ≢ [] }
+        ensures ok { OnOk result (TakesLine self.old line.now self.new) }
+        ensures err { IfErr result (IsSlip (SlipsLine self.old line.now)) }
+    {
+        if self.leaf.left() > 0 {
+            return self.entry(line);
+        }
+        self.node(line)
+    }
+
+    fn entry(&mut self, line: &[u8]) -> Result<(), LineErr>
+        requires some { self.old.pending ≢ [] }
+        requires more { 0 < self.old.leaf.left }
+        ensures ok { OnOk result (StepsEntry self.old line.now self.new) }
+        ensures err { IfErr result (IsSlip (SlipsEntry self.old.leaf line.now)) }
+    {
+        match self.leaf.take(line) {
+            Ok(()) => {}
+            Err(e) => return Err(e),
+        }
+        if self.leaf.left() > 0 {
+            return Ok(());
+        }
+        let ranks = self.leaf.close();
+        self.settle(Outcome::Inside(ranks))
+    }
+
+    fn node(&mut self, line: &[u8]) -> Result<(), LineErr>
+        requires { self.old.pending ≢ [] }
+        ensures ok { OnOk result (StepsNode self.old line.now self.new) }
+        ensures err { IfErr result (IsSlip (SlipsNode self.old line.now)) }
+    {
+        if has_word(line, b"cut") {
+            return self.cut(line);
+        }
+        if has_word(line, b"in") {
+            return self.inside(line);
+        }
+        if has_word(line, b"out") {
+            return self.outside(line);
+        }
+        if has_word(line, b"left") {
+            return self.left(line);
+        }
+        Err(LineErr::Slip(Slip::Word, 0))
+    }
+
+    fn cut(&mut self, line: &[u8]) -> Result<(), LineErr>
+        requires { self.old.pending ≢ [] }
+        ensures ok { OnOk result (StepsCut self.old line.now self.new) }
+        ensures err { IfErr result (IsSlip (SlipsCut self.old line.now)) }
+    {
+        match three(line, b"cut") {
+            Ok(form) => self.cut_by(form.0, form.1, form.2),
+            Err(slip) => Err(LineErr::Slip(slip, 0)),
+        }
+    }
+
+    fn cut_by(&mut self, a: i64, b: i64, c: i64) -> Result<(), LineErr>
+        requires { self.old.pending ≢ [] }
+        ensures ok { OnOk result (CutsBy self.old (record { a = a; b = b; c = c }) self.new) }
+        ensures err { IfErr result (IsSlip (SlipsCutBy self.old (record { a = a; b = b; c = c }))) }
+    {
+        if !self.has_room() {
+            return Err(LineErr::Slip(Slip::Count, 0));
+        }
+        match Form::new(a, b, c) {
+            Some(form) => self.divide(form),
+            None => Err(LineErr::Slip(Slip::Range, 0)),
+        }
+    }
+
+    fn has_room(&self) -> bool
+        ensures { IsTrue result ↔ HasRoom self.now }
+    {
+        let most = self.limits.cells();
+        most >= 2 && self.cells <= most - 2
+    }
+
+    fn divide(&mut self, form: Form) -> Result<(), LineErr>
+        requires some { self.old.pending ≢ [] }
+        requires room { HasRoom self.old }
+        ensures ok { OnOk result (Divides self.old form self.new) }
+        ensures err { IfErr result (IsSlip (SlipsDivide self.old)) }
+    {
+        let Some(path) = self.pending.pop() else {
+            unreachable!();
+        };
+        if path.len() >= self.limits.depth() {
+            return Err(LineErr::Slip(Slip::Range, 0));
+        }
+        match self.pending.push(part(&path, Side::Lt)) {
+            Ok(()) => {}
+            Err(_) => return Err(LineErr::NoMemory),
+        }
+        match self.pending.push(part(&path, Side::Ge)) {
+            Ok(()) => {}
+            Err(_) => return Err(LineErr::NoMemory),
+        }
+        match self.events.add(path, Outcome::Cut(form)) {
+            Ok(()) => {}
+            Err(_) => return Err(LineErr::NoMemory),
+        }
+        self.cells += 2;
+        Ok(())
+    }
+
+    fn inside(&mut self, line: &[u8]) -> Result<(), LineErr>
+        ensures ok { OnOk result (StepsIn self.old line.now self.new) }
+        ensures err { IfErr result (IsSlip (SlipsIn self.old line.now)) }
+    {
+        match count_of(line, b"in", 1, self.limits.wits(), Slip::Count) {
+            Ok(n) => {
+                self.leaf.open(n);
+                Ok(())
+            }
+            Err(slip) => Err(LineErr::Slip(slip, 0)),
+        }
+    }
+
+    fn outside(&mut self, line: &[u8]) -> Result<(), LineErr>
+        requires { self.old.pending ≢ [] }
+        ensures ok { OnOk result (StepsOut self.old line.now self.new) }
+        ensures err { IfErr result (IsSlip (SlipsOut self.old line.now)) }
+    {
+        let mut entries = Nums::new(self.events.alloc());
+        let n = match numbers_of(line, b"out", &mut entries) {
+            Ok(n) => n,
+            Err(e) => return Err(e),
+        };
+        if !counts(self.limits.wits(), n, &entries) {
+            return Err(LineErr::Slip(Slip::Count, 0));
+        }
+        match Cycle::of(entries) {
+            Some(cycle) => self.settle(Outcome::Outside(cycle)),
+            None => Err(LineErr::Slip(Slip::Range, 0)),
+        }
+    }
+
+    fn left(&mut self, line: &[u8]) -> Result<(), LineErr>
+        requires { self.old.pending ≢ [] }
+        ensures ok { OnOk result (StepsLeft self.old line.now self.new) }
+        ensures err { IfErr result (IsSlip (SlipsLeft line.now)) }
+    {
+        match cause_of(line) {
+            Some(cause) => self.settle(Outcome::Left(cause)),
+            None => Err(LineErr::Slip(Slip::Word, 0)),
+        }
+    }
+
+    // The next cell has the outcome, and isn't cut.
+    fn settle(&mut self, outcome: Outcome) -> Result<(), LineErr>
+        requires { self.old.pending ≢ [] }
+        ensures ok { OnOk result (Settles self.old outcome self.new) }
+        ensures err { IfErr result (IsSlip (λ slip back. ⊥)) }
+    {
+        match self.pending.pop() {
+            Some(path) => self.events.add(path, outcome),
+            None => unreachable!(),
+        }
+    }
+}
+
+// The limits of a tree without a cell.
+fn least_limits() -> Limits
+    ensures { result ≡ record { depth = 0; cells = 1; wits = 1 } }
+{
+    match Limits::new(0, 1, 1) {
+        Some(limits) => limits,
+        None => unreachable!(),
+    }
+}
+
+// The path with one side more, for a path of fewer than 48.
+fn part(path: &Path, side: Side) -> Path
+    requires { length path.now < 48 }
+    ensures { result ≡ path.now ++ side ∷ [] }
+{
+    match path.child(side) {
+        Some(part) => part,
+        None => unreachable!(),
+    }
+}
+
+// Whether n is the number of the entries, and there are 1 to so many.
+fn counts(most: u32, n: i64, entries: &Nums) -> bool
+    ensures { IsTrue result ↔ Counts most n entries.now }
+{
+    let count = entries.len();
+    1 <= count && count <= most as u64 && n == count as i64
+}
+
+// The cause of the line of a left leaf.
+fn cause_of(line: &[u8]) -> Option<Cause>
+    ensures some { IfSome result (λ cause. line.now ≡ left_line cause) }
+    ensures none { IfNone result ((cause : Cause) → line.now ≡ left_line cause → ⊥) }
+{
+    if line == b"left depth cycle".as_slice() {
+        return Some(Cause::Depth(Why::Cycle));
+    }
+    if line == b"left depth witness".as_slice() {
+        return Some(Cause::Depth(Why::Witness));
+    }
+    if line == b"left cells cycle".as_slice() {
+        return Some(Cause::Cells(Why::Cycle));
+    }
+    if line == b"left cells witness".as_slice() {
+        return Some(Cause::Cells(Why::Witness));
+    }
+    if line == b"left thin".as_slice() {
+        return Some(Cause::Thin);
+    }
+    if line == b"left memory".as_slice() {
+        return Some(Cause::Memory);
+    }
+    None
+}
