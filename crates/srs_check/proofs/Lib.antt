@@ -1,0 +1,13 @@
+pub mod PlaceLemmas
+pub mod Spans
+pub mod Entries
+pub mod Answering
+pub mod RowCounts
+pub mod Soundness
+pub mod Preordered
+pub mod Cuts
+pub mod NodeCounts
+pub mod WalkStates
+pub mod Excluded
+pub mod WholeCounts
+pub mod WholeProved

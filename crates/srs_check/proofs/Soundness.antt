@@ -1,0 +1,84 @@
+-- A leaf that proves itself is sound.
+use Rattle.std.proofs.Common.{◌≡◌, ◌≢◌, inl, inr, ℕ, zero, suc, ◌+◌, ◌<◌, List, length, slice_get, Some, ℤ, pos, ◌<ℤ◌, refl, sym, ap, ap₂, subst, ◌∙◌, arith}
+use Rattle.std.specs.Prelude.{Contains}
+use Rattle.std.proofs.lemmas.Int.{by_lt_z, ints}
+use Rattle.std.proofs.lemmas.Option.{same_Some}
+use Rattle.srs_num.specs.declared.pairs.V2.{V2}
+use Rattle.srs_num.specs.Points.{Point}
+use Rattle.srs_map.specs.Step.{pair, origin, step_of, after}
+use Rattle.srs_map.specs.Finiteness.{IsFinite}
+use Rattle.srs_map.specs.Links.{IsLink}
+use Rattle.srs_map.proofs.Brunotte.{brunotte}
+use Rattle.srs_map.proofs.Cycles.{after-add}
+use Rattle.srs_plane.specs.Regions.{Area, IsIn}
+use Rattle.srs_path.specs.declared.paths.Side.{Side}
+use Rattle.srs_path.specs.declared.outcomes.Cause.{Cause}
+use Rattle.srs_path.specs.declared.outcomes.Outcome.{Outcome}
+use Rattle.srs_path.specs.declared.outcomes.Outcome.TheVariants.{Inside, Outside, Left}
+use Rattle.srs_path.specs.Cutout.{Covers}
+use Rattle.srs_path.specs.Views.{Budget, Entry}
+use Rattle.srs_tree.specs.Tree.{History}
+use Rattle.srs_tree.specs.Growth.{IsProvedOf}
+use Rattle.srs_check.specs.Listed.{RankList, IsListed, ProvesInside}
+use Rattle.srs_check.specs.Proving.{Proves}
+use Rattle.srs_check.specs.Tested.{IsGoodLeaf}
+
+abbrev Reaches : Point → V2 → Type 0
+Reaches r w = (n : ℕ) × (after n r w ≡ origin)
+
+-- a pair is (0, 0), or it isn't
+zero_or : (P : Type 0) (w : V2) → (w ≡ origin → P) → (w ≢ origin → P) → P
+zero_or P w f g =
+    by_lt_z w.a (pos 0) (λ l. g (λ e. not_less w.a (ap (λ (x : V2). x.a) e) l)) (λ m.
+    by_lt_z (pos 0) w.a (λ l. g (λ e. not_more w.a (ap (λ (x : V2). x.a) e) l)) (λ n.
+    by_lt_z w.b (pos 0) (λ l. g (λ e. not_less w.b (ap (λ (x : V2). x.b) e) l)) (λ o.
+    by_lt_z (pos 0) w.b (λ l. g (λ e. not_more w.b (ap (λ (x : V2). x.b) e) l)) (λ p.
+    f (same w.a w.b (omega (arith, ints, m, n)) (omega (arith, ints, o, p)))))))
+  where
+    not_less : (x : ℤ) → x ≡ pos 0 → x <ℤ pos 0 → ⊥
+    not_less x e l = omega (arith, ints)
+
+    not_more : (x : ℤ) → x ≡ pos 0 → pos 0 <ℤ x → ⊥
+    not_more x e l = omega (arith, ints)
+
+    same : (x y : ℤ) → x ≡ pos 0 → y ≡ pos 0 → pair x y ≡ origin
+    same x y e f = ap₂ pair e f
+
+module _ (R : Area) (entries : RankList) (proves : ProvesInside R entries) (r : Point) (i : IsIn R r) where
+  -- a listed pair of rank below n reaches (0, 0)
+  reach_by : (n m : ℕ) (w : V2) → Contains entries (w, m) → m < n → Reaches r w
+  reach_by zero m w c l = absurd (omega arith)
+  reach_by (suc n) m w c l =
+      let b = (proves.closed (w, m) c).ahead (step_of r w) (r, i, refl) in
+      let next : w ≢ origin → Reaches r (step_of r w) = λ z. reach_by n b.listed.0 (step_of r w) b.listed.1 (omega (arith, l, b.falls z b.listed.0 b.listed.1)) in
+      zero_or (Reaches r w) w (λ e. (0, e)) (λ z. let f = next z in (f.0 + 1, after-add f.0 1 r w ∙ f.1))
+
+  links : (w v : V2) → IsListed entries w → IsLink r w v → IsListed entries v
+  links w v (n, c) (inl e) = ((proves.closed (w, n) c).ahead v (r, i, sym e)).listed
+  links w v (n, c) (inr e) = (proves.closed (w, n) c).back v (r, i, sym e)
+
+  -- each point of an inside leaf is finite
+  pub finite : IsFinite r
+  finite = brunotte r (IsListed entries) i.is_point (record {
+    units = proves.units;
+    closed = links;
+    reaches = λ w l. reach_by (l.0 + 1) l.0 w l.1 (omega arith);
+  })
+
+pub good_inside : (R : Area) (L : Budget) (H : History) (k : ℕ) (entries : RankList) → ProvesInside R entries → IsGoodLeaf R L H k (Inside entries)
+good_inside R L H k entries p = record { no_cut = λ h e. cc; proves = p; sound = λ r i. finite R entries p r i }
+
+pub good_outside : (R : Area) (L : Budget) (H : History) (k : ℕ) (cycle : List ℤ) → Covers R cycle → IsProvedOf R (Outside cycle) → IsGoodLeaf R L H k (Outside cycle)
+good_outside R L H k cycle p s = record { no_cut = λ h e. cc; proves = p; sound = s }
+
+pub good_left : (R : Area) (L : Budget) (H : History) (k : ℕ) (cause : Cause) → Proves R L H k (Left cause) → IsGoodLeaf R L H k (Left cause)
+good_left R L H k cause p = record { no_cut = λ h e. cc; proves = p; sound = tt }
+
+-- what is found of the event at a place, by its path and its outcome
+pub good_at : (R : Area) (L : Budget) (H K : History) (i k : ℕ) (f : Entry) (path : List Side) (o given : Outcome) → K ≡ H → slice_get K i ≡ Some f → (let x : Entry = record { path = path; outcome = o } in x ≡ f) → given ≡ o → k ≡ length path
+    → IsGoodLeaf R L H k given → (e : Entry) → slice_get H i ≡ Some e → IsGoodLeaf R L H (length e.path) e.outcome
+good_at R L H K i k f path o given same at view is deep good e bt =
+    let x : Entry = record { path = path; outcome = o } in
+    let here : IsGoodLeaf R L H (length path) o = subst (λ (n : ℕ). IsGoodLeaf R L H n o) deep (subst (IsGoodLeaf R L H k) is good) in
+    let found : x ≡ e = view ∙ same_Some f e (sym at ∙ ap (λ (y : History). slice_get y i) same ∙ bt) in
+    subst (λ (y : Entry). IsGoodLeaf R L H (length y.path) y.outcome) found here

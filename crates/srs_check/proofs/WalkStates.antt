@@ -1,0 +1,189 @@
+-- The walk of a check, node by node.
+use Rattle.std.proofs.Common.{◌≡◌, ℕ, ◌+◌, ◌<◌, ◌≤◌, List, [], ◌∷◌, ◌++◌, map, length, length-append, get_or, slice_get, refl, sym, ap, ap₂, subst, ◌∙◌, arith, append-nil}
+use Rattle.std.proofs.Math.Decide.{dec_lt}
+use Rattle.std.proofs.lemmas.Option.{same_Some, slice_get_within, slice_get-get_or}
+use Rattle.std.proofs.lemmas.List.FromFn.{length-map-range_with_len}
+use Rattle.std.specs.declared.option.Option.{Option}
+use Rattle.std.specs.declared.option.Option.TheVariants.{Some, None}
+use Rattle.srs_num.specs.Points.{LinearForm}
+use Rattle.srs_plane.specs.declared.halves.Half.{Half}
+use Rattle.srs_plane.specs.declared.polygons.Vertex.{Vertex}
+use Rattle.srs_plane.specs.Polygons.{edge_at, vertex_at, region_of, IsPolygon}
+use Rattle.srs_plane.specs.Regions.{Area, Divides}
+use Rattle.srs_plane.proofs.Inside.{polygon_has_point}
+use Rattle.srs_path.specs.declared.paths.Side.{Side}
+use Rattle.srs_path.specs.declared.paths.Side.TheVariants.{Ge, Lt}
+use Rattle.srs_cell.specs.declared.cells.Cell.{Cell}
+use Rattle.srs_path.specs.declared.outcomes.Cause.TheVariants.{Memory}
+use Rattle.srs_path.specs.declared.outcomes.Outcome.{Outcome}
+use Rattle.srs_path.specs.declared.outcomes.Outcome.TheVariants.{Inside, Outside, Cut, Left}
+use Rattle.srs_path.specs.Views.{Entry}
+use Rattle.srs_tree.specs.Tree.{Tree, outcome_at, halves_along, cut_half}
+use Rattle.srs_tree.specs.Rounds.{parts_by}
+use Rattle.srs_tree.specs.Growth.{IsProvedOf}
+use Rattle.srs_tree.proofs.HistoryLemmas.{region_at-snoc}
+use Rattle.srs_file.specs.Certificates.{CertView, IsCertificate}
+use Rattle.srs_check.specs.declared.faults.Fault.{Fault}
+use Rattle.srs_check.specs.Proving.{Proves, ProvesItself, IsProved, cell_at}
+use Rattle.srs_check.specs.Faults.{Fails, IsFaultOf}
+use Rattle.srs_check.specs.declared.nodes.Tested.{Tested}
+use Rattle.srs_check.specs.declared.nodes.Tested.TheVariants.{Leaf, Divided, Wrong}
+use Rattle.srs_check.specs.Tested.{IsGoodLeaf, IsDivided, IsTested}
+use Rattle.srs_check.specs.Certified.{IsCertified}
+use Rattle.srs_check.proofs.Preordered.{IsWalked, Takes, walked_first, walked_takes, walked_outcome}
+use Rattle.srs_check.proofs.Cuts.{partition}
+
+-- the node proves itself, and what it claims is sound
+pub record IsGood (c : CertView) (e : Entry) : Type 0 where
+  pub proves : ProvesItself c e
+  pub sound : IsProvedOf (cell_at c e.path) e.outcome
+
+-- before node i: the cells that wait are those of the paths that wait, and each node before is good
+pub record WalkState (c : CertView) (i : ℕ) (cells : List Area) : Type 0 where
+  pub waiting : List (List Side)
+  pub walked : IsWalked c.events i waiting
+  pub cells_are : cells ≡ map (cell_at c) waiting
+  pub good : (k : ℕ) (e : Entry) → k < i → slice_get c.events k ≡ Some e → IsGood c e
+
+pub walk_first : (c : CertView) (root : Area) → IsCertificate c → root ≡ region_of c.vertices → WalkState c 0 (root ∷ [])
+walk_first c root is e = record {
+  waiting = [] ∷ [];
+  walked = walked_first c.events is.tree;
+  cells_are = ap (λ (R : Area). R ∷ []) (e ∙ sym (append-nil (region_of c.vertices)));
+  good = λ k e l at. absurd (omega arith);
+}
+
+-- the event at a place
+here : (c : CertView) (i : ℕ) → i < length c.events → (e : Entry) × (slice_get c.events i ≡ Some e)
+here c i l = let d : Entry = record { path = []; outcome = Left Memory } in (get_or c.events i d, slice_get-get_or c.events i d l)
+
+-- where a node is to come, so is its cell
+pub some_cell : (c : CertView) (i : ℕ) → i < length c.events → WalkState c i [] → ⊥
+some_cell c i l s =
+    let e = here c i l in
+    let t = walked_takes c.events i s.waiting e.0 s.walked e.1 in
+    let q : [] ≡ cell_at c e.0.path ∷ map (cell_at c) t.rest = s.cells_are ∙ ap (map (cell_at c)) t.first in
+    cc
+
+good_more : (c : CertView) (i : ℕ) (e : Entry) → slice_get c.events i ≡ Some e → ((k : ℕ) (f : Entry) → k < i → slice_get c.events k ≡ Some f → IsGood c f) → IsGood c e → (k : ℕ) (f : Entry) → k < i + 1 → slice_get c.events k ≡ Some f → IsGood c f
+good_more c i e at before here k f l bt = elim (dec_lt k i) as (λ _. IsGood c f) [
+  | yes g ↦ before k f g bt
+  | no g ↦ let q : k ≡ i = omega arith in subst (IsGood c) (same_Some e f (sym at ∙ ap (slice_get c.events) (sym q) ∙ bt)) here
+]
+
+no_parts : (path : List Side) (o : Outcome) → ((h : LinearForm) → o ≡ Cut h → ⊥) → parts_by path o ≡ []
+no_parts path (Inside ranks) plain = refl
+no_parts path (Outside cycle) plain = refl
+no_parts path (Cut h) plain = absurd (plain h refl)
+no_parts path (Left cause) plain = refl
+
+head_is : (x y : Area) (xs ys : List Area) → x ∷ xs ≡ y ∷ ys → x ≡ y
+head_is x y xs ys e = cc
+
+tail_is : (x y : Area) (xs ys : List Area) → x ∷ xs ≡ y ∷ ys → xs ≡ ys
+tail_is x y xs ys e = cc
+
+module _ (c : CertView) (i : ℕ) (R : Area) (rest : List Area) (s : WalkState c i (R ∷ rest)) (e : Entry) (at : slice_get c.events i ≡ Some e) where
+  t : Takes c.events i s.waiting e
+  t = walked_takes c.events i s.waiting e s.walked at
+
+  both : R ∷ rest ≡ cell_at c e.path ∷ map (cell_at c) t.rest
+  both = s.cells_are ∙ ap (map (cell_at c)) t.first
+
+  pub cell_is : R ≡ cell_at c e.path
+  cell_is = head_is R (cell_at c e.path) rest (map (cell_at c) t.rest) both
+
+  rest_is : rest ≡ map (cell_at c) t.rest
+  rest_is = tail_is R (cell_at c e.path) rest (map (cell_at c) t.rest) both
+
+  pub walk_leaf : IsGoodLeaf R c.limits c.events (length e.path) e.outcome → WalkState c (i + 1) rest
+  walk_leaf leaf = record {
+    waiting = t.rest;
+    walked = subst (λ (ps : List (List Side)). IsWalked c.events (i + 1) (ps ++ t.rest)) (no_parts e.path e.outcome leaf.no_cut) t.next;
+    cells_are = rest_is;
+    good = good_more c i e at s.good (record {
+      proves = subst (λ (A : Area). Proves A c.limits c.events (length e.path) e.outcome) cell_is leaf.proves;
+      sound = subst (λ (A : Area). IsProvedOf A e.outcome) cell_is leaf.sound;
+    });
+  }
+
+  -- the cell of a part
+  part_is : (h : LinearForm) (side : Side) → e.outcome ≡ Cut h → cell_at c (e.path ++ side ∷ []) ≡ R ++ cut_half (Some (Cut h)) side
+  part_is h side q =
+      region_at-snoc (region_of c.vertices) (outcome_at c.events) e.path side
+      ∙ ap₂ (λ (A : Area) (o : Option Outcome). A ++ cut_half o side) (sym cell_is) (walked_outcome c.events i e t.rest at t.is_open ∙ ap Some q)
+
+  pub walk_cut : (x y : Area) → IsDivided R e.outcome x y → WalkState c (i + 1) (x ∷ y ∷ rest)
+  walk_cut x y d =
+      let divides : Divides (cell_at c e.path) d.form = subst (λ (A : Area). Divides A d.form) cell_is d.parts.divides in
+      record {
+        waiting = (e.path ++ Ge ∷ []) ∷ (e.path ++ Lt ∷ []) ∷ t.rest;
+        walked = subst (λ (o : Outcome). IsWalked c.events (i + 1) (parts_by e.path o ++ t.rest)) d.is_cut t.next;
+        cells_are =
+            ap₂ (λ (a b : Area). a ∷ b ∷ rest) (d.parts.above ∙ sym (part_is d.form Ge d.is_cut)) (d.parts.below ∙ sym (part_is d.form Lt d.is_cut))
+            ∙ ap (λ (xs : List Area). cell_at c (e.path ++ Ge ∷ []) ∷ cell_at c (e.path ++ Lt ∷ []) ∷ xs) rest_is;
+        good = good_more c i e at s.good (record {
+          proves = subst (λ (o : Outcome). Proves (cell_at c e.path) c.limits c.events (length e.path) o) (sym d.is_cut) divides;
+          sound = subst (λ (o : Outcome). IsProvedOf (cell_at c e.path) o) (sym d.is_cut) divides;
+        });
+      }
+
+  pub walk_fault : (fault : Fault) → Fails R c.limits c.events (length e.path) e.outcome fault → IsFaultOf c i fault
+  walk_fault fault wrong = record {
+    entry = e;
+    is = at;
+    wrong = subst (λ (A : Area). Fails A c.limits c.events (length e.path) e.outcome fault) cell_is wrong;
+    before = λ k f l bt. (s.good k f l bt).proves;
+  }
+
+-- the halves of a cell: those of the root, and one for each side of its path
+few_half : (o : Option Outcome) (s : Side) → length (cut_half o s) ≤ 1
+few_half None s = omega arith
+few_half (Some (Inside ranks)) s = omega arith
+few_half (Some (Outside cycle)) s = omega arith
+few_half (Some (Cut h)) s = omega arith
+few_half (Some (Left cause)) s = omega arith
+
+few_along : (T : Tree) (above rest : List Side) → length (halves_along T above rest) ≤ length rest
+few_along T above [] = omega arith
+few_along T above (s ∷ rest) = omega (arith, length-append (cut_half (T above) s) (halves_along T (above ++ s ∷ []) rest), few_half (T above) s, few_along T (above ++ s ∷ []) rest)
+
+few_root : (vs : List Vertex) → IsPolygon vs → length (region_of vs) ≤ 16
+few_root vs p = omega (arith, length-map-range_with_len (λ (i : ℕ). let h : Half = record { form = edge_at vs i; kind = (vertex_at vs i).kind } in h) 0 (length vs), p.counted.1)
+
+pub few_halves : (c : CertView) → IsCertificate c → (path : List Side) → length (cell_at c path) ≤ 16 + length path
+few_halves c is path =
+    omega (arith, length-append (region_of c.vertices) (halves_along (outcome_at c.events) [] path), few_along (outcome_at c.events) [] path, few_root c.vertices is.polygon)
+
+module _ (c : CertView) (i : ℕ) (cells : List Area) (s : WalkState c i cells) (l : length c.events ≤ i) where
+  all_good : (k : ℕ) (e : Entry) → slice_get c.events k ≡ Some e → IsGood c e
+  all_good k e at = s.good k e (omega (arith, slice_get_within c.events k e at)) at
+
+  pub walk_proves : IsProved c
+  walk_proves k e at = (all_good k e at).proves
+
+  pub walk_certifies : IsCertificate c → IsCertified c
+  walk_certifies is = record {
+    parts = partition (region_of c.vertices) c.events is.tree (λ k e h at q. subst (λ (o : Outcome). Proves (cell_at c e.path) c.limits c.events (length e.path) o) q (all_good k e at).proves) (polygon_has_point c.vertices is.polygon);
+    sound = λ k e at. (all_good k e at).sound;
+  }
+
+pub few_here : (c : CertView) (i : ℕ) (R : Area) (rest : List Area) → IsCertificate c → WalkState c i (R ∷ rest) → (e : Entry) → slice_get c.events i ≡ Some e → length R ≤ 16 + length e.path
+few_here c i R rest is s e at = omega (arith, ap length (cell_is c i R rest s e at), few_halves c is e.path)
+
+-- what the test of the node at a place tells
+abbrev pub IsTestedAt : CertView → ℕ → Area → Tested → Type 0
+IsTestedAt c i R t = (e : Entry) → slice_get c.events i ≡ Some e → IsTested R c.limits c.events (length e.path) e.outcome t
+
+module _ (c : CertView) (i : ℕ) (l : i < length c.events) (R : Area) (rest : List Area) (s : WalkState c i (R ∷ rest)) (t : Tested) (tested : IsTestedAt c i R t) where
+  told : (u : Tested) → t ≡ u → (e : Entry) → slice_get c.events i ≡ Some e → IsTested R c.limits c.events (length e.path) e.outcome u
+  told u q e at = subst (IsTested R c.limits c.events (length e.path) e.outcome) q (tested e at)
+
+  pub after_leaf : t ≡ Leaf → WalkState c (i + 1) rest
+  after_leaf q = let e = here c i l in walk_leaf c i R rest s e.0 e.1 (told Leaf q e.0 e.1)
+
+  pub after_cut : (x y : Cell) → t ≡ Divided x y → WalkState c (i + 1) (x ∷ y ∷ rest)
+  after_cut x y q = let e = here c i l in walk_cut c i R rest s e.0 e.1 x y (told (Divided x y) q e.0 e.1)
+
+  pub after_fault : (fault : Fault) → t ≡ Wrong fault → IsFaultOf c i fault
+  after_fault fault q = let e = here c i l in walk_fault c i R rest s e.0 e.1 fault (told (Wrong fault) q e.0 e.1)

@@ -1,0 +1,102 @@
+-- The nodes of a whole history in preorder are its cells, each once.
+use Rattle.std.proofs.Common.{◌≡◌, ◌≢◌, ℕ, zero, suc, ◌+◌, ◌<◌, ◌≤◌, Bool, true, false, cond, List, [], ◌∷◌, ◌++◌, map, length, take, get_or, slice_get, refl, sym, ap, ap₂, subst, ◌∙◌, arith}
+use Rattle.std.specs.Prelude.{◌==◌, nat_le, count_by, Contains}
+use Rattle.std.specs.List.{AllPairs}
+use Rattle.std.specs.FinMap as finite
+use Rattle.std.proofs.lemmas.Option.{none-some, slice_get-map, slice_get_within, slice_get-get_or, get_or_from_slice_get}
+use Rattle.std.proofs.lemmas.List.{take_more, take_all, map-append}
+use Rattle.std.proofs.lemmas.List.Elements.{Contains-get_or}
+use Rattle.std.proofs.lemmas.List.Quantifiers.{all_pairs_push}
+use Rattle.std.proofs.lemmas.List.Sums.{sum_by-cons}
+use Rattle.std.specs.Option.{option_map}
+use Rattle.std.specs.declared.option.Option.{Option}
+use Rattle.std.specs.declared.option.Option.TheVariants.{Some, None}
+use Rattle.srs_plane.specs.Regions.{Area}
+use Rattle.srs_path.specs.declared.paths.Side.{Side}
+use Rattle.srs_path.specs.declared.outcomes.Cause.TheVariants.{Memory}
+use Rattle.srs_path.specs.declared.outcomes.Outcome.{Outcome}
+use Rattle.srs_path.specs.declared.outcomes.Outcome.TheVariants.{Left}
+use Rattle.srs_path.specs.Views.{Budget, Entry}
+use Rattle.srs_tree.specs.Tree.{History, path_eq, outcome_at}
+use Rattle.srs_tree.specs.Rounds.{cells_of, upto, row_of, IsWhole}
+use Rattle.srs_tree.specs.Snapshots.{Snapshot, StandsFor}
+use Rattle.srs_tree.specs.Preorder.{event_of, preorder_of}
+use Rattle.srs_tree.specs.WholeTrees.{ListsWholeTree}
+use Rattle.srs_tree.proofs.HistoryLemmas.{path_eq_same}
+use Rattle.srs_tree.proofs.TreeLemmas.{event_of as event_at, cell_of_outcome}
+use Rattle.srs_tree.proofs.CellsLemmas.{cells_are}
+use Rattle.srs_tree.proofs.OnePlanLemmas.{count_same}
+use Rattle.srs_tree.proofs.PlannedWhole.{some_is}
+use Rattle.srs_tree.proofs.Sorted.{Pair, before}
+use Rattle.srs_tree.proofs.StandsLemmas.{ties}
+use Rattle.srs_check.specs.Budgets.{nodes_upto, nodes_at}
+use Rattle.srs_check.proofs.Preordered.{walked_all, walked_takes}
+
+-- entries as events have the outcomes that are found at their paths
+events_found : (es : List Pair) (p : List Side) → outcome_at (map event_of es) p ≡ finite.find before p es
+events_found [] p = refl
+events_found (e ∷ es) p = ap₂ (λ (b : Bool) (x : Option Outcome). cond b (Some e.1) x) (sym (ties p e.0)) (events_found es p)
+
+-- the preorder of a snapshot has the outcomes of the history that it stands for
+pub preorder_same : (Root : Area) (H : History) (v : Snapshot) → StandsFor Root H v → (p : List Side) → outcome_at (preorder_of v) p ≡ outcome_at H p
+preorder_same Root H v stands p = events_found (finite.entries v.entries) p ∙ sym (finite.get-entries v.entries p) ∙ stands.entries p
+
+abbrev path_of : Entry → List Side
+path_of e = e.path
+
+abbrev paths : History → List (List Side)
+paths E = map path_of E
+
+path_there : (E : History) (p : List Side) → Contains (paths E) p → (o : Outcome) × (outcome_at E p ≡ Some o)
+path_there [] p (k, l, q) = absurd (omega arith)
+path_there (x ∷ E) p (zero, l, q) = (x.outcome, ap (λ (r : List Side). cond (path_eq x.path r) (Some x.outcome) (outcome_at E r)) (sym q) ∙ ap (λ (b : Bool). cond b (Some x.outcome) (outcome_at E x.path)) (path_eq_same x.path) ∙ refl)
+path_there (x ∷ E) p (suc k, l, q) =
+    let rest = path_there E p (k, omega arith, q) in
+    elim (path_eq x.path p) as (λ b. (o : Outcome) × (cond b (Some x.outcome) (outcome_at E p) ≡ Some o)) [ true ↦ (x.outcome, refl) | false ↦ rest ]
+
+there_path : (E : History) (p : List Side) (o : Outcome) → outcome_at E p ≡ Some o → Contains (paths E) p
+there_path E p o e =
+    let t = event_at E p o e in
+    let at : slice_get (paths E) t.place ≡ Some p = slice_get-map path_of E t.place ∙ ap (option_map path_of) t.is ∙ ap Some t.path in
+    (t.place, slice_get_within (paths E) t.place p at, get_or_from_slice_get (paths E) t.place p p at)
+
+count_paths : (test : List Side → Bool) (E : History) → count_by (λ (e : Entry). test e.path) E ≡ count_by test (paths E)
+count_paths test [] = refl
+count_paths test (e ∷ E) =
+    sum_by-cons _ e E ∙ ap (λ (n : ℕ). cond (test e.path) 1 0 + n) (count_paths test E) ∙ sym (sum_by-cons _ e.path (paths E))
+
+-- no path of a whole tree's list comes twice
+module _ (E : History) (tree : ListsWholeTree E) where
+  once_upto : (i : ℕ) → i ≤ length E → AllPairs ◌≢◌ (paths (take i E))
+  once_upto zero l = λ i j d m n. absurd (omega (arith, n))
+  once_upto (suc i) l =
+      let d : Entry = record { path = []; outcome = Left Memory } in
+      let e : Entry = get_or E i d in
+      let w = walked_all E tree i (omega arith) in
+      let t = walked_takes E i w.0 e w.1 (slice_get-get_or E i d (omega arith)) in
+      let first : Contains (e.path ∷ t.rest) e.path = (0, omega arith, refl) in
+      let fresh : outcome_at (take i E) e.path ≡ None = t.is_open.fresh e.path first in
+      let q : i + 1 ≡ suc i = omega arith in
+      let more : paths (take (suc i) E) ≡ paths (take i E) ++ e.path ∷ [] = ap (λ (n : ℕ). paths (take n E)) (sym q) ∙ ap paths (take_more E i d (omega arith)) ∙ map-append path_of (take i E) (e ∷ []) in
+      let old = once_upto i (omega arith) in
+      let differs : (k : ℕ) (f : List Side) → k < length (paths (take i E)) → get_or (paths (take i E)) k f ≢ e.path =
+      λ k f m r. let u = path_there (take i E) e.path (subst (Contains (paths (take i E))) r (Contains-get_or (paths (take i E)) k f m)) in none-some u.0 (sym fresh ∙ u.1) in
+      subst (AllPairs ◌≢◌) (sym more) (all_pairs_push ◌≢◌ (paths (take i E)) e.path old differs)
+
+  once : AllPairs ◌≢◌ (paths E)
+  once = subst (λ (K : History). AllPairs ◌≢◌ (paths K)) (take_all (length E) E (omega arith)) (once_upto (length E) (omega arith))
+
+  module _ (Root : Area) (L : Budget) (H : History) (whole : IsWhole Root L H) (same : (p : List Side) → outcome_at E p ≡ outcome_at H p) where
+    counted : (test : List Side → Bool) → count_by (λ (e : Entry). test e.path) E ≡ count_by test (cells_of H)
+    counted test =
+        count_paths test E
+        ∙ count_same test (paths E) (cells_of H)
+        (λ p t c. let u = path_there E p c in (cells_are Root L.wits H whole.legal).from p (cell_of_outcome Root L.wits H whole.legal p u.0 (sym (same p) ∙ u.1)))
+        (λ p t c. let u = some_is (outcome_at H p) (whole.each_cell p ((cells_are Root L.wits H whole.legal).to p c)) in there_path E p u.0 (same p ∙ u.1))
+        once (cells_are Root L.wits H whole.legal).once
+
+    pub upto_same : (k : ℕ) → nodes_upto E k ≡ upto H k
+    upto_same k = counted (λ (p : List Side). nat_le (length p) k)
+
+    pub row_same : (k : ℕ) → nodes_at E k ≡ row_of H k
+    row_same k = counted (λ (p : List Side). length p == k)

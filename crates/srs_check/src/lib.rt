@@ -1,0 +1,16 @@
+//! The checker of certificates: each node shows by itself what it claims, and is tested in preorder. It stands on cells,
+//! their cuts and their bounds, and on nothing that finds witnesses, cycles or outcomes.
+#![tactic(auto)]
+
+mod checks;
+mod faults;
+mod laws;
+mod listed;
+mod nodes;
+mod places;
+mod rows;
+mod waiting;
+
+pub use checks::check;
+pub use faults::{Checked, Counts, Fault};
+pub use laws::whole_certificates;
