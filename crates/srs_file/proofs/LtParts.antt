@@ -1,5 +1,5 @@
 -- The places of the Lt parts, found by one walk over the events of a whole tree.
-use Rattle.std.proofs.Common.{◌≡◌, ◌≢◌, ◌<◌, ◌≤◌, ◌+◌, ◌++◌, ◌⊎◌, ℕ, zero, suc, List, [], ◌∷◌, length, map, drop, get_or, set, Some, None, slice_get, refl, sym, ap, ◌∙◌, inl, inr, arith, length-append, subst, get_or-set_other, get_or-set_same}
+use Rattle.std.proofs.Common.{◌≡◌, ◌<◌, ◌+◌, ◌++◌, ◌⊎◌, ℕ, zero, suc, List, [], ◌∷◌, length, map, drop, get_or, set, Some, slice_get, refl, sym, ap, ◌∙◌, inl, inr, arith, length-append, subst, get_or-set_other, get_or-set_same}
 use Rattle.std.proofs.lemmas.List.{same_from_push, drop_more, drop_all, get_or_append_left, length-set}
 use Rattle.std.proofs.lemmas.Bool.Decides.{eqb_tells}
 use Rattle.std.proofs.lemmas.Option.{same_Some, get_or_from_slice_get, slice_get_within}

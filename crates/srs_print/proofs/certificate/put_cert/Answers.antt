@@ -1,4 +1,4 @@
-use Rattle.std.proofs.Common.{◌≡◌, ◌++◌, ◌∷◌, [], codes, flat_map, append-nil}
+use Rattle.std.proofs.Common.{◌≡◌, ◌++◌, codes, flat_map}
 use Rattle.std.proofs.lemmas.Result.{err_from_is_err_and, on_err_weaker}
 use Rattle.srs_file.specs.Texts.{head_text, outcome_text, ended}
 use Rattle.srs_file.specs.Certificates.{outcomes_of}

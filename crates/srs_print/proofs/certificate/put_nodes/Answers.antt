@@ -1,10 +1,7 @@
-use Rattle.std.proofs.Common.{◌≡◌, ◌++◌, Some, slice_get, length, ap, sym, ◌∙◌, take, take_all, arith, flat_map}
+use Rattle.std.proofs.Common.{◌≡◌, ◌++◌, Some, slice_get}
 use Rattle.std.proofs.lemmas.Option.{slice_get-map}
-use Rattle.std.proofs.lemmas.List.{length-map}
 use Rattle.std.proofs.lemmas.Result.{err_from_is_err_and}
-use Rattle.srs_path.specs.declared.outcomes.Outcome.{Outcome}
 use Rattle.srs_path.specs.Views.{Entry}
-use Rattle.srs_tree.specs.Tree.{History}
 use Rattle.srs_file.specs.Texts.{outcome_text}
 use Rattle.srs_file.specs.Certificates.{outcomes_of}
 use Rattle.srs_print.specs.Fronts.{StopsIn}
