@@ -1,5 +1,5 @@
 -- The reader of certificates meets what the laws of line grammars ask.
-use Rattle.std.proofs.Common.{◌≡◌, ◌<◌, ◌≤◌, ℕ, ℤ, pos, List, [], ◌∷◌, codes, refl, sym, ◌∙◌, inl, inr, arith}
+use Rattle.std.proofs.Common.{◌≡◌, ℕ, ℤ, pos, List, [], ◌∷◌, codes, refl, sym, ◌∙◌, inl, inr, arith}
 use Rattle.srs_path.specs.Views.{Budget}
 use Rattle.srs_line.specs.declared.slip.Slip.{Slip}
 use Rattle.srs_line.specs.declared.slip.Slip.TheVariants.{Count}

@@ -1,6 +1,5 @@
 -- The text of a certificate is read as the certificate.
-use Rattle.std.proofs.Common.{◌≡◌, ◌≢◌, ◌<◌, ◌≤◌, ◌+◌, ◌-◌, ◌++◌, All, FitsSigned, ℕ, pos, List, [], ◌∷◌, length, Some, None, codes, flat_map, refl, sym, ap, ◌∙◌, inl, inr, arith, append_assoc, append-nil}
-use Rattle.std.specs.Int.{w64}
+use Rattle.std.proofs.Common.{◌≡◌, ◌-◌, ◌++◌, All, ℕ, pos, List, [], ◌∷◌, length, Some, None, codes, flat_map, refl, sym, ap, ◌∙◌, inl, inr, arith, append_assoc, append-nil}
 use Rattle.std.proofs.lemmas.List.Elements.{All-head, All-tail}
 use Rattle.srs_plane.specs.declared.polygons.Vertex.{Vertex}
 use Rattle.srs_plane.specs.Polygons.{IsPolygon, region_of}
@@ -11,8 +10,7 @@ use Rattle.srs_line.specs.Machine.{joined, Runs}
 use Rattle.srs_line.specs.Fields.{line_of}
 use Rattle.srs_line.proofs.MachineLaws.{never_both}
 use Rattle.srs_line.proofs.LineTexts.{says_line, line_no_lf}
-use Rattle.srs_file.specs.declared.cert_reader.CertPhase.{CertPhase}
-use Rattle.srs_file.specs.declared.cert_reader.CertPhase.TheVariants.{First, Head, Vertices, Nodes, Done}
+use Rattle.srs_file.specs.declared.cert_reader.CertPhase.TheVariants.{Head, Vertices}
 use Rattle.srs_file.specs.declared.cert_reader.CertReader.{CertReader}
 use Rattle.srs_file.specs.Texts.{ended, vertex_text}
 use Rattle.srs_file.specs.Certificates.{CertView, cert_text}
@@ -24,7 +22,7 @@ use Rattle.srs_file.proofs.PolygonTexts.{vertex_line, says_vertex, plain_vertex,
 use Rattle.srs_file.proofs.CertLaws.{cert_exact, limit_numbers}
 use Rattle.srs_file.proofs.TreeTexts.{events_text}
 use Rattle.srs_file.proofs.LineShapes.{srs_plain, limits_plain, count_fits, limits_fit}
-use Rattle.srs_file.proofs.TreeRuns.{event_lines, joined_events, st, Ends, tree_runs}
+use Rattle.srs_file.proofs.TreeRuns.{event_lines, joined_events, st, tree_runs}
 
 -- the lines of some vertices, and more
 abbrev pub vertex_lines : List Vertex → List (List ℕ) → List (List ℕ)

@@ -1,20 +1,18 @@
 -- What is read as a certificate is its text.
-use Rattle.std.proofs.Common.{◌≡◌, ◌≢◌, ◌<◌, ◌≤◌, ◌+◌, ◌++◌, ℕ, pos, List, [], ◌∷◌, length, codes, flat_map, refl, sym, ap, ◌∙◌, inl, inr, arith, append_assoc, append-nil}
+use Rattle.std.proofs.Common.{◌≡◌, ◌+◌, ◌++◌, ℕ, pos, List, [], ◌∷◌, length, codes, flat_map, refl, sym, ap, ◌∙◌, inl, inr, arith, append_assoc, append-nil}
 use Rattle.srs_path.specs.Views.{Budget}
 use Rattle.srs_tree.specs.WholeTrees.{ListsWholeTree}
 use Rattle.srs_line.specs.Machine.{joined, Runs, IsRead}
-use Rattle.srs_line.specs.Fields.{line_of}
 use Rattle.srs_line.proofs.LineTexts.{said_is}
 use Rattle.srs_file.specs.declared.cert_reader.CertPhase.{CertPhase}
 use Rattle.srs_file.specs.declared.cert_reader.CertPhase.TheVariants.{First, Head, Vertices, Nodes, Done}
 use Rattle.srs_file.specs.declared.cert_reader.CertReader.{CertReader}
-use Rattle.srs_file.specs.Texts.{ended, count_text, ring_text, limits_text, head_text, outcome_text}
+use Rattle.srs_file.specs.Texts.{ended, count_text, limits_text, head_text, outcome_text}
 use Rattle.srs_file.specs.Certificates.{outcomes_of, IsCertificate, cert_text}
 use Rattle.srs_file.specs.Grammar.{SpellsCertificate}
-use Rattle.srs_file.specs.Ring.{RingView}
 use Rattle.srs_file.specs.CertReading.{StepsFrom, CertSteps, CertEnds, cert_start, read_view}
 use Rattle.srs_file.proofs.PolygonTexts.{so_far, IsFull, opened_text, added}
-use Rattle.srs_file.proofs.TreeTexts.{tree_text, IsGrown, root_grown, Grows, grows}
+use Rattle.srs_file.proofs.TreeTexts.{tree_text, IsGrown, root_grown, grows}
 
 abbrev pub srs_text : List ℕ
 srs_text = count_text (codes "srs") 1

@@ -4,7 +4,7 @@ use Rattle.srs_num.specs.declared.pairs.V2.{V2}
 use Rattle.srs_line.specs.declared.slip.Slip.{Slip}
 use Rattle.srs_line.specs.Fields.{Says}
 use Rattle.srs_line.proofs.FieldLaws.{says_once, no_field_slip, field_slip_once}
-use Rattle.srs_file.specs.Leaf.{LeafView, SaysEntry, IsEntrySlip, Follows, TakesEntry, SlipsEntry}
+use Rattle.srs_file.specs.Leaf.{LeafView, SaysEntry, IsEntrySlip, TakesEntry, SlipsEntry}
 
 abbrev pub entry_numbers : V2 → ℤ → List ℤ
 entry_numbers w z = w.a ∷ w.b ∷ z ∷ []

@@ -1,16 +1,15 @@
 -- A leaf that grows by a witness.
-use Rattle.std.proofs.Common.{◌≡◌, ◌≢◌, ◌<◌, ◌≤◌, ◌+◌, ◌-◌, ◌^◌, ◌++◌, ℕ, zero, suc, ℤ, pos, ◌≤ℤ◌, unsigned_abs, List, [], ◌∷◌, length, get_or, take, Some, slice_get, refl, sym, ap, ◌∙◌, inl, inr, arith, length-append, subst}
-use Rattle.std.specs.Prelude.{All, AllPairs}
+use Rattle.std.proofs.Common.{◌≡◌, ◌<◌, ◌≤◌, ◌-◌, ◌++◌, ℕ, ℤ, pos, ◌≤ℤ◌, unsigned_abs, List, [], ◌∷◌, length, get_or, Some, slice_get, refl, sym, ap, ◌∙◌, arith, length-append}
+use Rattle.std.specs.Prelude.{AllPairs}
 use Rattle.std.proofs.Math.Decide.{dec_lt}
 use Rattle.std.proofs.Math.Seq.{get_or-append_seam}
-use Rattle.std.proofs.lemmas.Int.{ints}
-use Rattle.std.proofs.lemmas.List.{same_from_push, get_or_append_left, get_or_default}
+use Rattle.std.proofs.lemmas.List.{get_or_append_left}
 use Rattle.std.proofs.lemmas.List.Elements.{All-nil, All-cons, All-append}
-use Rattle.std.proofs.lemmas.Option.{same_Some, slice_get-get_or, slice_get_within, get_or_from_slice_get}
+use Rattle.std.proofs.lemmas.Option.{slice_get-get_or, slice_get_within, get_or_from_slice_get}
 use Rattle.srs_num.specs.declared.pairs.V2.{V2}
 use Rattle.srs_map.specs.Step.{IsNarrow}
 use Rattle.srs_path.specs.Core.{Precedes}
-use Rattle.srs_path.specs.Lists.{ranked, MakesRanks, IsRankList}
+use Rattle.srs_path.specs.Lists.{ranked, MakesRanks}
 use Rattle.srs_path.proofs.Order.{precedes-trans}
 use Rattle.srs_path.proofs.Ranked.{length-ranked, get-ranked}
 use Rattle.srs_file.specs.Leaf.{IsGrowingLeaf, IsEntry, Follows}

@@ -1,10 +1,10 @@
 -- The lines of a certificate's values: that they say them, and have no LF.
-use Rattle.std.proofs.Common.{◌≡◌, ◌≢◌, ◌<◌, ◌≤◌, ◌+◌, ◌^◌, ◌++◌, All, FitsSigned, ℕ, ℤ, pos, List, [], ◌∷◌, length, codes, refl, arith, rules, lit<}
+use Rattle.std.proofs.Common.{◌≢◌, ◌<◌, ◌≤◌, ◌^◌, All, FitsSigned, ℕ, ℤ, pos, List, [], ◌∷◌, length, codes, refl, arith, rules, lit<}
 use Rattle.std.specs.Int.{w64}
 use Rattle.std.proofs.lemmas.Int.{ints}
 use Rattle.std.proofs.lemmas.List.Elements.{All-nil, All-cons}
 use Rattle.srs_num.specs.declared.pairs.V2.{V2}
-use Rattle.srs_num.specs.Points.{LinearForm, IsFormSized, IsWithin}
+use Rattle.srs_num.specs.Points.{LinearForm, IsFormSized}
 use Rattle.srs_num.proofs.Ranges.{small_fits}
 use Rattle.srs_map.specs.Step.{IsNarrow}
 use Rattle.srs_path.specs.declared.outcomes.Why.TheVariants.{Cycle as CycleFails, Witness as WitnessFails}
@@ -13,8 +13,7 @@ use Rattle.srs_path.specs.declared.outcomes.Cause.TheVariants.{Depth, Cells, Thi
 use Rattle.srs_path.specs.Lists.{IsCycle}
 use Rattle.srs_path.specs.Views.{Budget, IsBudget}
 use Rattle.srs_text.specs.Line.{HasNoLf}
-use Rattle.srs_line.specs.Fields.{Says, HasWord, line_of}
-use Rattle.srs_line.proofs.LineTexts.{says_line, line_no_lf}
+use Rattle.srs_line.specs.Fields.{HasWord}
 use Rattle.srs_file.specs.TreeReading.{left_line}
 use Rattle.srs_file.proofs.LeafLaws.{entry_numbers}
 

@@ -1,5 +1,5 @@
 -- The lines of the nodes, one node after the other.
-use Rattle.std.proofs.Common.{◌≡◌, ◌<◌, ◌≤◌, ◌+◌, ◌*◌, ◌^◌, ◌++◌, ℕ, List, [], ◌∷◌, length, map, take, flat_map, get_or, Some, slice_get, refl, sym, ap, ◌∙◌, inl, inr, arith, length-append, append_assoc, append-nil, All, subst}
+use Rattle.std.proofs.Common.{◌≡◌, ◌<◌, ◌≤◌, ◌+◌, ◌*◌, ◌^◌, ◌++◌, ℕ, List, [], ◌∷◌, length, take, flat_map, get_or, Some, slice_get, refl, sym, ap, ◌∙◌, inl, inr, arith, length-append, append_assoc, append-nil, All, subst}
 use Rattle.std.proofs.Math.Nat.{mul-le-mul_left}
 use Rattle.std.proofs.lemmas.List.{take_more, get_or_append_left, map-append}
 use Rattle.std.proofs.Math.Seq.{get_or-append_seam}
@@ -15,7 +15,7 @@ use Rattle.srs_tree.specs.Tree.{History}
 use Rattle.srs_tree.specs.WholeTrees.{AllowsAt, KeepsTo, IsWithin}
 use Rattle.srs_file.specs.Texts.{outcome_text, head_text}
 use Rattle.srs_file.specs.Heights.{height}
-use Rattle.srs_file.specs.Certificates.{CertView, outcomes_of, IsInRange, lf_count, text_before, line_of_node, ListsLines}
+use Rattle.srs_file.specs.Certificates.{CertView, outcomes_of, IsInRange, lf_count, text_before, line_of_node}
 use Rattle.srs_file.proofs.LineCounts.{lf-append, head_lines, outcome_lines}
 
 -- the lines of the nodes before node i are listed, and the next one is known

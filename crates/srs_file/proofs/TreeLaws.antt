@@ -1,5 +1,5 @@
 -- What a line of a tree does is determined, and so is what is wrong with it.
-use Rattle.std.proofs.Common.{◌≡◌, ◌≢◌, ◌⊎◌, ◌<◌, ◌≤◌, ◌+◌, ◌++◌, ◌==◌, if◌then◌else◌, ℕ, ℤ, pos, List, [], ◌∷◌, length, codes, get_or, refl, sym, ap, ◌∙◌, inl, inr, arith}
+use Rattle.std.proofs.Common.{◌≡◌, ◌≢◌, ◌⊎◌, ◌<◌, ◌==◌, if◌then◌else◌, ℕ, ℤ, List, [], ◌∷◌, length, codes, get_or, refl, sym, ap, ◌∙◌, inl, inr, arith}
 use Rattle.srs_num.specs.Points.{LinearForm}
 use Rattle.srs_path.specs.declared.paths.Side.{Side}
 use Rattle.srs_path.specs.declared.outcomes.Why.TheVariants.{Cycle as CycleFails, Witness as WitnessFails}
@@ -14,7 +14,7 @@ use Rattle.srs_line.proofs.FieldLaws.{word_once, says_once, no_field_slip, field
 use Rattle.srs_line.proofs.ManyLaws.{no_many_slip, many_slip_once}
 use Rattle.srs_file.specs.declared.tree.Tree.{Tree}
 use Rattle.srs_file.specs.Leaf.{LeafView}
-use Rattle.srs_file.specs.TreeReading.{left_line, no_leaf, Settles, Divides, SlipsDivide, CutsBy, SlipsCutBy, StepsCut, SlipsCut, StepsIn, SlipsIn, StepsOut, SlipsOut, StepsLeft, SlipsLeft, StepsNode, SlipsNode, StepsEntry, TakesLine, SlipsLine}
+use Rattle.srs_file.specs.TreeReading.{left_line, no_leaf, Settles, Divides, SlipsDivide, CutsBy, SlipsCutBy, StepsCut, SlipsCut, StepsIn, StepsOut, SlipsOut, StepsLeft, StepsNode, SlipsNode, StepsEntry, TakesLine, SlipsLine}
 use Rattle.srs_file.proofs.LeafLaws.{entry_once, entry_apart, entry_slips}
 
 heads : (p q : List Side) (r k : List (List Side)) → p ∷ r ≡ q ∷ k → p ≡ q

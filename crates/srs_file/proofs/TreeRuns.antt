@@ -1,5 +1,5 @@
 -- The lines of a tree are read as the tree.
-use Rattle.std.proofs.Common.{◌≡◌, ◌≢◌, ◌<◌, ◌≤◌, ◌+◌, ◌-◌, ◌++◌, ℕ, ℤ, pos, List, [], ◌∷◌, length, get_or, codes, flat_map, refl, sym, ap, ◌∙◌, inl, inr, arith, append_assoc, append-nil, length-append}
+use Rattle.std.proofs.Common.{◌≡◌, ◌≢◌, ◌<◌, ◌≤◌, ◌+◌, ◌-◌, ◌++◌, ℕ, pos, List, [], ◌∷◌, length, get_or, codes, flat_map, refl, sym, ap, ◌∙◌, inl, inr, arith, append_assoc, append-nil, length-append}
 use Rattle.std.specs.Prelude.{All, AllPairs}
 use Rattle.std.proofs.Math.Seq.{get_or-append_seam}
 use Rattle.std.proofs.lemmas.Int.{ints}
@@ -11,13 +11,12 @@ use Rattle.srs_path.specs.declared.paths.Side.TheVariants.{Ge, Lt}
 use Rattle.srs_path.specs.declared.outcomes.Outcome.{Outcome}
 use Rattle.srs_path.specs.declared.outcomes.Outcome.TheVariants.{Inside, Outside, Cut, Left}
 use Rattle.srs_path.specs.Core.{Precedes}
-use Rattle.srs_path.specs.Lists.{IsRankList}
 use Rattle.srs_path.specs.Views.{Budget, IsBudget, Entry}
 use Rattle.srs_tree.specs.Tree.{History}
 use Rattle.srs_tree.specs.Rounds.{parts_by}
 use Rattle.srs_tree.specs.WholeTrees.{ListsTrees, AllowsAt, KeepsTo}
 use Rattle.srs_line.specs.Machine.{joined, Runs}
-use Rattle.srs_line.specs.Fields.{line_of, Says}
+use Rattle.srs_line.specs.Fields.{line_of}
 use Rattle.srs_line.proofs.LineTexts.{says_line, line_no_lf}
 use Rattle.srs_line.proofs.FieldLaws.{says_word}
 use Rattle.srs_file.specs.declared.tree.Tree.{Tree}

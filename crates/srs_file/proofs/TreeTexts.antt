@@ -1,5 +1,5 @@
 -- What the lines of a tree spell, and what holds of a tree that good lines lead to.
-use Rattle.std.proofs.Common.{◌≡◌, ◌≢◌, ◌<◌, ◌≤◌, ◌+◌, ◌-◌, ◌^◌, ◌++◌, ◌⊎◌, ℕ, zero, suc, ℤ, pos, ◌≤ℤ◌, List, [], ◌∷◌, length, map, codes, flat_map, refl, sym, ap, ◌∙◌, inl, inr, arith, append_assoc, append-nil, length-append, subst}
+use Rattle.std.proofs.Common.{◌≡◌, ◌≢◌, ◌<◌, ◌≤◌, ◌+◌, ◌-◌, ◌++◌, ℕ, zero, suc, pos, List, [], ◌∷◌, length, codes, flat_map, refl, sym, ap, ◌∙◌, inl, inr, arith, append_assoc, append-nil, length-append}
 use Rattle.std.specs.Prelude.{All, AllPairs}
 use Rattle.std.proofs.lemmas.Int.{ints}
 use Rattle.std.proofs.lemmas.List.{map-append}
@@ -9,7 +9,6 @@ use Rattle.srs_num.specs.declared.pairs.V2.{V2}
 use Rattle.srs_num.specs.Points.{LinearForm, IsFormSized}
 use Rattle.srs_map.specs.Step.{IsNarrow}
 use Rattle.srs_path.specs.declared.paths.Side.{Side}
-use Rattle.srs_path.specs.declared.paths.Side.TheVariants.{Ge, Lt}
 use Rattle.srs_path.specs.declared.outcomes.Outcome.{Outcome}
 use Rattle.srs_path.specs.declared.outcomes.Outcome.TheVariants.{Inside, Outside, Cut, Left}
 use Rattle.srs_path.specs.Core.{Precedes}
@@ -24,7 +23,7 @@ use Rattle.srs_line.proofs.LineTexts.{said_is}
 use Rattle.srs_file.specs.declared.tree.Tree.{Tree}
 use Rattle.srs_file.specs.Texts.{ended, count_text, rank_text, outcome_text}
 use Rattle.srs_file.specs.Certificates.{outcomes_of, IsInRange}
-use Rattle.srs_file.specs.Leaf.{LeafView, Follows, TakesEntry}
+use Rattle.srs_file.specs.Leaf.{LeafView, TakesEntry}
 use Rattle.srs_file.specs.TreeReading.{at_path, no_leaf, only_root, Settles, Divides, HasRoom, StepsNode, StepsEntry, TakesLine}
 use Rattle.srs_file.proofs.Leaves.{ascends_push}
 use Rattle.srs_file.proofs.LeafLaws.{entry_numbers}

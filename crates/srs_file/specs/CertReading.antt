@@ -21,6 +21,7 @@ use Rattle.srs_file.specs.TreeReading.{no_tree, only_root, TakesLine, SlipsLine}
 abbrev pub StepsFirst : CertReader → List ℕ → CertReader → Type 0
 StepsFirst old line new = Says (codes "srs") (pos 1 ∷ []) line × (new ≡ record old { phase = Head })
 
+-- what is wrong with the first line
 abbrev pub SlipsFirst : List ℕ → Slip → ℕ → Type 0
 SlipsFirst line slip back =
     (IsFieldSlip (codes "srs") 1 line slip ⊎ ((z : ℤ) × Says (codes "srs") (z ∷ []) line × (z ≢ pos 1) × (slip ≡ Version))) × (back ≡ 0)
@@ -29,6 +30,7 @@ SlipsFirst line slip back =
 abbrev pub StepsHead : CertReader → List ℕ → CertReader → Type 0
 StepsHead old line new = (ring : RingView) × Opens line ring × (new ≡ record old { phase = Vertices; ring = ring })
 
+-- what is wrong with the second line
 abbrev pub SlipsHead : List ℕ → Slip → ℕ → Type 0
 SlipsHead line slip back = IsOpenSlip line slip × (back ≡ 0)
 
@@ -40,6 +42,7 @@ SaysLimits b line = Says (codes "limits") (pos b.depth ∷ pos b.cells ∷ pos b
 abbrev pub AreNoLimits : ℤ → ℤ → ℤ → Type 0
 AreNoLimits d c w = (b : Budget) → IsBudget b → d ≡ pos b.depth → c ≡ pos b.cells → w ≡ pos b.wits → ⊥
 
+-- what is wrong with a line that should say the limits
 abbrev pub IsLimitsSlip : List ℕ → Slip → Type 0
 IsLimitsSlip line slip =
     IsFieldSlip (codes "limits") 3 line slip ⊎ ((d : ℤ) × (c : ℤ) × (w : ℤ) × Says (codes "limits") (d ∷ c ∷ w ∷ []) line × AreNoLimits d c w × (slip ≡ Range))
@@ -54,6 +57,7 @@ StepsVertices old line new =
     ((0 < old.ring.left) × (ring : RingView) × TakesVertex old.ring line ring × (new ≡ record old { ring = ring }))
     ⊎ ((old.ring.left ≡ 0) × StepsLimits old line new)
 
+-- what is wrong with a vertex, or with the limits
 abbrev pub SlipsVertices : CertReader → List ℕ → Slip → ℕ → Type 0
 SlipsVertices old line slip back =
     ((0 < old.ring.left) × SlipsVertex old.ring line slip back) ⊎ ((old.ring.left ≡ 0) × IsLimitsSlip line slip × (back ≡ 0))
@@ -64,6 +68,7 @@ StepsNodes old line new =
     ((old.tree.pending ≢ []) × (tree : Tree) × TakesLine old.tree line tree × (new ≡ record old { tree = tree }))
     ⊎ ((old.tree.pending ≡ []) × (line ≡ codes "end") × (new ≡ record old { phase = Done }))
 
+-- what is wrong with a line of the tree, or with `end`
 abbrev pub SlipsNodes : CertReader → List ℕ → Slip → ℕ → Type 0
 SlipsNodes old line slip back =
     ((old.tree.pending ≢ []) × SlipsLine old.tree line slip back)

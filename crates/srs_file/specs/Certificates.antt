@@ -22,6 +22,7 @@ pub record CertView : Type 0 where
   pub limits : Budget
   pub events : History
 
+-- the outcomes of the events, in their order
 abbrev pub outcomes_of : History → List Outcome
 outcomes_of H = map (λ e. e.outcome) H
 

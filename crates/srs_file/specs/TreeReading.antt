@@ -1,5 +1,5 @@
 -- The lines of a tree, in preorder: cuts, leaves, and the witnesses of inside leaves.
-use Rattle.std.specs.Prelude.{◌≡◌, ◌≢◌, ◌⊎◌, ℕ, ◌+◌, ◌<◌, ◌≤◌, ℤ, pos, List, [], ◌∷◌, ◌++◌, length, codes}
+use Rattle.std.specs.Prelude.{◌≡◌, ◌⊎◌, ℕ, ◌+◌, ◌<◌, ◌≤◌, ℤ, pos, List, [], ◌∷◌, ◌++◌, length, codes}
 use Rattle.srs_num.specs.Points.{LinearForm, IsFormSized}
 use Rattle.srs_path.specs.declared.paths.Side.{Side}
 use Rattle.srs_path.specs.declared.paths.Side.TheVariants.{Ge, Lt}
@@ -56,6 +56,7 @@ SlipsDivide old slip back =
 abbrev pub HasRoom : Tree → Type 0
 HasRoom old = old.cells + 2 ≤ old.limits.cells
 
+-- the next cell is cut by the form, which is in its range
 abbrev pub CutsBy : Tree → LinearForm → Tree → Type 0
 CutsBy old h new = HasRoom old × IsFormSized h × Divides old h new
 
@@ -66,9 +67,11 @@ SlipsCutBy old h slip back =
     ⊎ ((HasRoom old × (¬ (IsFormSized h)) × (slip ≡ Range) × (back ≡ 0))
     ⊎ (HasRoom old × IsFormSized h × SlipsDivide old slip back))
 
+-- the line is a cut, and cuts the next cell
 abbrev pub StepsCut : Tree → List ℕ → Tree → Type 0
 StepsCut old line new = (h : LinearForm) × Says (codes "cut") (h.a ∷ h.b ∷ h.c ∷ []) line × CutsBy old h new
 
+-- what is wrong with a cut: its fields, and else what it would do
 abbrev pub SlipsCut : Tree → List ℕ → Slip → ℕ → Type 0
 SlipsCut old line slip back =
     (IsFieldSlip (codes "cut") 3 line slip × (back ≡ 0))
@@ -78,6 +81,7 @@ SlipsCut old line slip back =
 abbrev pub StepsIn : Tree → List ℕ → Tree → Type 0
 StepsIn old line new = (n : ℕ) × SaysCount (codes "in") 1 old.limits.wits n line × (new ≡ record old { leaf = record { left = n; entries = [] } })
 
+-- what is wrong with the line of an inside leaf
 abbrev pub SlipsIn : Tree → List ℕ → Slip → ℕ → Type 0
 SlipsIn old line slip back = IsCountSlip (codes "in") 1 old.limits.wits Count line slip × (back ≡ 0)
 
@@ -87,19 +91,23 @@ pub record Counts (W : ℕ) (n : ℤ) (entries : List ℤ) : Type 0 where
   pub few : length entries ≤ W
   pub is : n ≡ pos (length entries)
 
+-- the line is an outside leaf with its cycle
 abbrev pub StepsOut : Tree → List ℕ → Tree → Type 0
 StepsOut old line new =
     (n : ℤ) × (cycle : List ℤ) × Says (codes "out") (n ∷ cycle) line × Counts old.limits.wits n cycle × IsCycle cycle × Settles old (Outside cycle) new
 
+-- what is wrong with an outside leaf: its fields, else how many entries there are, else their ranges
 abbrev pub SlipsOut : Tree → List ℕ → Slip → ℕ → Type 0
 SlipsOut old line slip back =
     IsManySlip (codes "out") line slip back
     ⊎ (((n : ℤ) × (cycle : List ℤ) × Says (codes "out") (n ∷ cycle) line × (¬ (Counts old.limits.wits n cycle)) × (slip ≡ Count) × (back ≡ 0))
     ⊎ ((n : ℤ) × (cycle : List ℤ) × Says (codes "out") (n ∷ cycle) line × Counts old.limits.wits n cycle × (¬ (IsCycle cycle)) × (slip ≡ Range) × (back ≡ 0)))
 
+-- the line is a left leaf
 abbrev pub StepsLeft : Tree → List ℕ → Tree → Type 0
 StepsLeft old line new = (cause : Cause) × (line ≡ left_line cause) × Settles old (Left cause) new
 
+-- the line is that of no left leaf
 abbrev pub SlipsLeft : List ℕ → Slip → ℕ → Type 0
 SlipsLeft line slip back = ((cause : Cause) → line ≡ left_line cause → ⊥) × (slip ≡ Word) × (back ≡ 0)
 
@@ -118,6 +126,7 @@ pub record HasNoWord (line : List ℕ) : Type 0 where
   pub outside : ¬ (HasWord (codes "out") line)
   pub left : ¬ (HasWord (codes "left") line)
 
+-- what is wrong with a node, by its first token
 abbrev pub SlipsNode : Tree → List ℕ → Slip → ℕ → Type 0
 SlipsNode old line slip back =
     (HasWord (codes "cut") line × SlipsCut old line slip back)
@@ -136,5 +145,6 @@ StepsEntry old line new =
 abbrev pub TakesLine : Tree → List ℕ → Tree → Type 0
 TakesLine old line new = ((0 < old.leaf.left) × StepsEntry old line new) ⊎ ((old.leaf.left ≡ 0) × StepsNode old line new)
 
+-- what is wrong with a witness, or with a node
 abbrev pub SlipsLine : Tree → List ℕ → Slip → ℕ → Type 0
 SlipsLine old line slip back = ((0 < old.leaf.left) × SlipsEntry old.leaf line slip back) ⊎ ((old.leaf.left ≡ 0) × SlipsNode old line slip back)

@@ -2,7 +2,7 @@
 use Rattle.std.proofs.Common.{◌≡◌, ℕ, ℤ, List, [], ◌∷◌, inr}
 use Rattle.srs_text.specs.Spelling.{IsNumber}
 use Rattle.srs_line.specs.Fields.{tokens, AreNumbers}
-use Rattle.srs_line.specs.Many.{IsNumbersSlip, IsManySlip, HasFields}
+use Rattle.srs_line.specs.Many.{IsNumbersSlip, IsManySlip}
 use Rattle.srs_line.specs.Refusal.{IsSlip}
 use Rattle.srs_line.specs.declared.slip.LineErr.{LineErr}
 use Rattle.srs_line.specs.declared.slip.LineErr.TheVariants as lines

@@ -1,5 +1,4 @@
 use Rattle.std.proofs.Common.{◌≡◌, sym, ◌∙◌, ap, refl}
-use Rattle.srs_file.specs.declared.cert_reader.CertReader.{CertReader}
 use Rattle.srs_file.specs.Certificates.{cert_text}
 use Rattle.srs_file.specs.CertReading.{cert_start, read_view}
 use Rattle.srs_file.proofs.CertLaws.{cert_exact}

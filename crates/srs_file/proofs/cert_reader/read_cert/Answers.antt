@@ -1,12 +1,10 @@
-use Rattle.std.proofs.Common.{◌≡◌, ℕ, List, sym, ◌∙◌, subst, refl}
+use Rattle.std.proofs.Common.{◌≡◌, List, ◌∙◌, refl}
 use Rattle.std.proofs.lemmas.Result.{err_from_is_err_and}
 use Rattle.srs_plane.specs.declared.polygons.Vertex.{Vertex}
 use Rattle.srs_path.specs.Views.{Budget}
 use Rattle.srs_tree.specs.Tree.{History}
 use Rattle.srs_line.specs.Machine.{IsRead}
-use Rattle.srs_file.specs.declared.cert_reader.CertReader.{CertReader}
 use Rattle.srs_file.specs.Certificates.{CertView}
-use Rattle.srs_file.specs.Grammar.{SpellsCertificate}
 use Rattle.srs_file.specs.CertReading.{cert_start, CertSteps, CertEnds, read_view}
 use Rattle.srs_file.proofs.CertTexts.{read_is_cert}
 use Rattle.srs_file.proofs.CertRuns.{no_cert}

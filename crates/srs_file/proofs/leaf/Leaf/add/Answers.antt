@@ -1,9 +1,9 @@
-use Rattle.std.proofs.Common.{◌≡◌, ◌<◌, ◌≤◌, ◌-◌, ◌++◌, ◌∷◌, [], ℕ, ℤ, pos, negsuc, ◌≤ℤ◌, unsigned_abs, List, length, arith, FitsSigned, w64, refl, sym, ap, ◌∙◌, rules}
+use Rattle.std.proofs.Common.{◌≡◌, ◌<◌, ◌-◌, ◌++◌, ◌∷◌, [], ℕ, ℤ, pos, negsuc, ◌≤ℤ◌, unsigned_abs, List, length, arith, FitsSigned, w64, refl}
 use Rattle.std.proofs.lemmas.Int.{ints, to_z-of_z}
 use Rattle.srs_num.specs.declared.pairs.V2.{V2}
 use Rattle.srs_path.specs.Lists.{ranked}
-use Rattle.srs_file.specs.Leaf.{LeafView, IsGrowingLeaf, Follows}
-use Rattle.srs_file.proofs.Leaves.{leaf_grows, leaf_empty, ranked_push}
+use Rattle.srs_file.specs.Leaf.{LeafView, Follows}
+use Rattle.srs_file.proofs.Leaves.{leaf_grows, ranked_push}
 use Rattle.srs_file.proofs.leaf.Leaf.add.Goals as goal
 
 pub invariant_of-self-2 : goal.invariant_of-self-2
