@@ -6,3 +6,4 @@ mod line;
 mod node;
 
 pub use certificate::put_cert;
+pub use line::put_words;

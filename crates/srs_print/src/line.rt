@@ -13,7 +13,7 @@ pub(crate) fn put_line(out: &mut Bytes, word: &[u8], numbers: &[i64]) -> Result<
     ensures ok { OnOk result (out.new ≡ out.old ++ ended (line_of word.now numbers.now)) }
     ensures err { OnErr result (StopsIn out.old (ended (line_of word.now numbers.now)) out.new) }
 {
-    put_said(out, word, numbers)?;
+    put_words(out, word, numbers)?;
     out.extend(b"\n")
 }
 
@@ -27,8 +27,9 @@ pub(crate) fn put_count(out: &mut Bytes, word: &[u8], n: u64) -> Result<(), NoMe
     out.extend(b"\n")
 }
 
-// The word and the numbers, with no LF.
-fn put_said(out: &mut Bytes, word: &[u8], numbers: &[i64]) -> Result<(), NoMemory>
+/// Appends the word and the numbers, each with a space before it, and no LF. An `Err` is want of memory, and leaves a front
+/// of that behind what was there.
+pub fn put_words(out: &mut Bytes, word: &[u8], numbers: &[i64]) -> Result<(), NoMemory>
     ensures ok { OnOk result (out.new ≡ out.old ++ line_of word.now numbers.now) }
     ensures err { OnErr result (StopsIn out.old (line_of word.now numbers.now) out.new) }
 {

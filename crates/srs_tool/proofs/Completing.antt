@@ -7,11 +7,11 @@ use Rattle.srs_text.specs.Spelling.{IsNumber}
 use Rattle.srs_text.specs.Ends.{Rose}
 use Rattle.srs_path.specs.Views.{Budget}
 use Rattle.srs_tool.specs.declared.words.Command.{Command}
-use Rattle.srs_tool.specs.declared.words.Command.TheVariants.{Certify}
+use Rattle.srs_tool.specs.declared.words.Command.TheVariants.{Certify, Check}
 use Rattle.srs_tool.specs.declared.status.Status.{Status}
 use Rattle.srs_tool.specs.declared.status.Status.TheVariants.{Done, Bad, Usage, NoMemory, ReadFault, WriteFault, Refused, TooLong}
 use Rattle.srs_tool.specs.Words.{AsksCertify, Asks, longest_input}
-use Rattle.srs_tool.specs.Output.{Owes, IsInputOf}
+use Rattle.srs_tool.specs.Output.{Owes, IsInputOf, EndsWell}
 use Rattle.srs_tool.specs.Ends.{Completes, Overruns, IsGoodRun}
 use Rattle.srs_tool.proofs.WordLemmas.{same_count}
 
@@ -29,9 +29,15 @@ same_limits words a b h k =
     (same_count k.cells a.cells b.cells (subst (λ x. IsNumber x (pos a.cells)) t.1 h.limits.cells_is) k.limits.cells_is)
     (same_count k.wits a.wits b.wits (subst (λ x. IsNumber x (pos a.wits)) t.2 h.limits.wits_is) k.limits.wits_is)
 
+four_not_one : (x d c w y : List ℕ) → ◌≡◌ {A = List (List ℕ)} (x ∷ d ∷ c ∷ w ∷ []) (y ∷ []) → ⊥
+four_not_one x d c w y same = let n : 4 ≡ 1 = ap length same in absurd (omega (arith, n))
+
 -- words ask for one command
 same_command : (words : List (List ℕ)) (c d : Command) → Asks words c → Asks words d → c ≡ d
 same_command words (Certify a) (Certify b) h k = ap Certify (same_limits words a b h k)
+same_command words (Certify a) Check h k = absurd (four_not_one _ _ _ _ _ (sym h.split ∙ k))
+same_command words Check (Certify b) h k = absurd (four_not_one _ _ _ _ _ (sym k.split ∙ h))
+same_command words Check Check h k = refl
 
 -- what was read to the end is what was there
 same_input : (left left_after : Option (List ℕ)) (input bytes : List ℕ) → left ≡ Some input → Consumes left left_after bytes → IsAtEnd left_after → bytes ≡ input
@@ -50,6 +56,20 @@ took_within (Some xs) (Some ys) input bytes held taken =
 -- a good input isn't refused
 not_refused : (command : Command) (input output : List ℕ) → Owes command input Refused output → IsInputOf command input → ⊥
 not_refused (Certify limits) input output owed good = owed.no_polygon good.0 good.1
+not_refused Check input output owed good = owed.no_certificate good.0 good.1
+
+-- nothing is bad in a polygon
+bad_ends : (command : Command) (input output : List ℕ) → Owes command input Bad output → EndsWell command Bad
+bad_ends (Certify limits) input output owed = absurd owed
+bad_ends Check input output owed = inr (inl refl)
+
+done_ends : (command : Command) → EndsWell command Done
+done_ends (Certify limits) = inl refl
+done_ends Check = inl refl
+
+memory_ends : (command : Command) → EndsWell command NoMemory
+memory_ends (Certify limits) = inr refl
+memory_ends Check = inr (inr refl)
 
 module _ (words : List (List ℕ)) (left left_after got got_after : Option (List ℕ)) (good : IsGoodRun words left) where
   refusal_fails : Completes words Refused left left_after got got_after → ⊥
@@ -66,17 +86,23 @@ module _ (words : List (List ℕ)) (left left_after got got_after : Option (List
       let t = over.overlong in
       absurd (omega (arith, took_within left left_after good.input t.0 good.held t.1, t.2, good.short, l))
 
+  bad_well : Completes words Bad left left_after got got_after → EndsWell good.command Bad
+  bad_well done =
+      let c : done.command ≡ good.command = same_command words done.command good.command done.asked good.asked in
+      subst (λ (d : Command). EndsWell d Bad) c (bad_ends done.command done.answer.input done.answer.answer.output done.answer.answer.owed)
+
   pub completes : (result : Status) (read read_after write write_after : ℕ)
       → (result ≡ Usage → (command : Command) → Asks words command → ⊥)
+      → (result ≡ Bad → Completes words Bad left left_after got got_after)
       → (result ≡ Refused → Completes words Refused left left_after got got_after)
       → (result ≡ ReadFault → Rose read read_after) → (result ≡ WriteFault → Rose write write_after)
-      → (result ≡ TooLong → Overruns words left left_after) → result ≢ Bad
-      → ¬ (Rose read read_after) → ¬ (Rose write write_after) → (result ≡ Done) ⊎ (result ≡ NoMemory)
-  completes Done r s w v usage refused reads writes long bad no_read no_write = inl refl
-  completes Bad r s w v usage refused reads writes long bad no_read no_write = absurd (bad refl)
-  completes Usage r s w v usage refused reads writes long bad no_read no_write = absurd (usage refl good.command good.asked)
-  completes NoMemory r s w v usage refused reads writes long bad no_read no_write = inr refl
-  completes ReadFault r s w v usage refused reads writes long bad no_read no_write = absurd (no_read (reads refl))
-  completes WriteFault r s w v usage refused reads writes long bad no_read no_write = absurd (no_write (writes refl))
-  completes Refused r s w v usage refused reads writes long bad no_read no_write = absurd (refusal_fails (refused refl))
-  completes TooLong r s w v usage refused reads writes long bad no_read no_write = absurd (overrun_fails (long refl))
+      → (result ≡ TooLong → Overruns words left left_after)
+      → ¬ (Rose read read_after) → ¬ (Rose write write_after) → EndsWell good.command result
+  completes Done r s w v usage bad refused reads writes long no_read no_write = done_ends good.command
+  completes Bad r s w v usage bad refused reads writes long no_read no_write = bad_well (bad refl)
+  completes Usage r s w v usage bad refused reads writes long no_read no_write = absurd (usage refl good.command good.asked)
+  completes NoMemory r s w v usage bad refused reads writes long no_read no_write = memory_ends good.command
+  completes ReadFault r s w v usage bad refused reads writes long no_read no_write = absurd (no_read (reads refl))
+  completes WriteFault r s w v usage bad refused reads writes long no_read no_write = absurd (no_write (writes refl))
+  completes Refused r s w v usage bad refused reads writes long no_read no_write = absurd (refusal_fails (refused refl))
+  completes TooLong r s w v usage bad refused reads writes long no_read no_write = absurd (overrun_fails (long refl))

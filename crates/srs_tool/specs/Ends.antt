@@ -32,10 +32,10 @@ pub record BreaksOff (command : Command) (input : List ℕ) (got got_after : Opt
 -- what the sink took for an input that was read, by the status
 abbrev pub Tells : Command → List ℕ → Status → Option (List ℕ) → Option (List ℕ) → ℕ → ℕ → Type 0
 Tells command input Done got got_after faults faults_after = Answers command input Done got got_after
+Tells command input Bad got got_after faults faults_after = Answers command input Bad got got_after
 Tells command input Refused got got_after faults faults_after = Answers command input Refused got got_after
 Tells command input WriteFault got got_after faults faults_after = Rose faults faults_after × BreaksOff command input got got_after
 Tells command input NoMemory got got_after faults faults_after = got ≡ got_after
-Tells command input Bad got got_after faults faults_after = ⊥
 Tells command input Usage got got_after faults faults_after = ⊥
 Tells command input ReadFault got got_after faults faults_after = ⊥
 Tells command input TooLong got got_after faults faults_after = ⊥

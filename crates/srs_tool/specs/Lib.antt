@@ -1,4 +1,5 @@
 pub mod Words
+pub mod Verdicts
 pub mod Output
 pub mod Ends
 pub mod Exit

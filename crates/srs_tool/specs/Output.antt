@@ -1,5 +1,5 @@
 -- What the program owes for an input that was read to its end: a status, and what it writes.
-use Rattle.std.specs.Prelude.{◌≡◌, ℕ, List, [], ◌∷◌, ◌++◌, Contains, pos, codes}
+use Rattle.std.specs.Prelude.{◌≡◌, ◌⊎◌, ℕ, List, [], ◌∷◌, ◌++◌, Contains, pos, codes}
 use Rattle.std.specs.Fmt.{signed_decimal}
 use Rattle.srs_plane.specs.declared.polygons.Vertex.{Vertex}
 use Rattle.srs_plane.specs.Polygons.{region_of}
@@ -10,11 +10,17 @@ use Rattle.srs_tree.specs.Tree.{History, outcome_at, region_at, IsPartition}
 use Rattle.srs_tree.specs.Rounds.{IsPlan}
 use Rattle.srs_line.specs.declared.slip.Slip.{Slip}
 use Rattle.srs_line.specs.Refusal.{slip_word}
-use Rattle.srs_file.specs.Certificates.{IsTextOf}
-use Rattle.srs_file.specs.Grammar.{SpellsPolygon}
+use Rattle.srs_file.specs.Certificates.{CertView, IsTextOf}
+use Rattle.srs_file.specs.Grammar.{SpellsPolygon, SpellsCertificate}
 use Rattle.srs_file.specs.PolygonReading.{FirstSlip}
+use Rattle.srs_file.specs.CertReading.{FirstCertSlip}
+use Rattle.srs_check.specs.declared.faults.Fault.{Fault}
+use Rattle.srs_check.specs.Proving.{IsProved}
+use Rattle.srs_check.specs.Faults.{counts_of, IsFirstFault}
+use Rattle.srs_check.specs.Certified.{IsCertified}
 use Rattle.srs_tool.specs.declared.words.Command.{Command}
-use Rattle.srs_tool.specs.declared.words.Command.TheVariants.{Certify}
+use Rattle.srs_tool.specs.declared.words.Command.TheVariants.{Certify, Check}
+use Rattle.srs_tool.specs.Verdicts.{valid_line, fault_line}
 use Rattle.srs_tool.specs.declared.status.Status.{Status}
 use Rattle.srs_tool.specs.declared.status.Status.TheVariants.{Done, Bad, Usage, NoMemory, ReadFault, WriteFault, Refused, TooLong}
 
@@ -50,24 +56,68 @@ abbrev pub SpellsNoPolygon : List ℕ → Type 0
 SpellsNoPolygon text = (vs : List Vertex) → SpellsPolygon text vs → ⊥
 
 -- the input is no polygon, and the output says where it slips first
-pub record Refuses (input output : List ℕ) : Type 0 where
+pub record RefusesPolygon (input output : List ℕ) : Type 0 where
   pub line : ℕ
   pub slip : Slip
   pub first : FirstSlip input line slip
   pub no_polygon : SpellsNoPolygon input
   pub written : output ≡ refusal_line line slip
 
--- what is written at Done and at Refused for the bytes that were read
+-- The input is a certificate, each node of which proves itself, and the output says so. So its leaves partition its
+-- polygon, each cut divides, and inside each point is finite, outside the printed pair recurs at each point.
+pub record Validates (input output : List ℕ) : Type 0 where
+  pub certificate : CertView
+  pub spelled : SpellsCertificate input certificate
+  pub proved : IsProved certificate
+  pub certified : IsCertified certificate
+  pub written : output ≡ valid_line (counts_of certificate.events)
+
+-- the input is a certificate, and the output names its first fault
+pub record FindsFault (input output : List ℕ) : Type 0 where
+  pub certificate : CertView
+  pub spelled : SpellsCertificate input certificate
+  pub line : ℕ
+  pub fault : Fault
+  pub first : IsFirstFault certificate line fault
+  pub written : output ≡ fault_line line fault
+
+-- the text is that of no certificate
+abbrev pub SpellsNoCertificate : List ℕ → Type 0
+SpellsNoCertificate text = (c : CertView) → SpellsCertificate text c → ⊥
+
+-- the input is no certificate, and the output says where it slips first
+pub record RefusesCertificate (input output : List ℕ) : Type 0 where
+  pub line : ℕ
+  pub slip : Slip
+  pub first : FirstCertSlip input line slip
+  pub no_certificate : SpellsNoCertificate input
+  pub written : output ≡ refusal_line line slip
+
+-- what is written at Done, at Bad and at Refused for the bytes that were read
 abbrev pub Owes : Command → List ℕ → Status → List ℕ → Type 0
 Owes (Certify limits) input Done output = Certifies limits input output
-Owes (Certify limits) input Refused output = Refuses input output
+Owes (Certify limits) input Refused output = RefusesPolygon input output
 Owes (Certify limits) input Bad output = ⊥
 Owes (Certify limits) input Usage output = ⊥
 Owes (Certify limits) input NoMemory output = ⊥
 Owes (Certify limits) input ReadFault output = ⊥
 Owes (Certify limits) input WriteFault output = ⊥
 Owes (Certify limits) input TooLong output = ⊥
+Owes Check input Done output = Validates input output
+Owes Check input Bad output = FindsFault input output
+Owes Check input Refused output = RefusesCertificate input output
+Owes Check input Usage output = ⊥
+Owes Check input NoMemory output = ⊥
+Owes Check input ReadFault output = ⊥
+Owes Check input WriteFault output = ⊥
+Owes Check input TooLong output = ⊥
 
 -- the input is one that the command takes
 abbrev pub IsInputOf : Command → List ℕ → Type 0
 IsInputOf (Certify limits) input = (vertices : List Vertex) × SpellsPolygon input vertices
+IsInputOf Check input = (certificate : CertView) × SpellsCertificate input certificate
+
+-- how the command ends for such an input, where no end fails
+abbrev pub EndsWell : Command → Status → Type 0
+EndsWell (Certify limits) status = (status ≡ Done) ⊎ (status ≡ NoMemory)
+EndsWell Check status = (status ≡ Done) ⊎ ((status ≡ Bad) ⊎ (status ≡ NoMemory))

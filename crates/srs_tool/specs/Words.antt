@@ -3,7 +3,7 @@ use Rattle.std.specs.Prelude.{◌≡◌, ◌^◌, ℕ, List, [], ◌∷◌, pos,
 use Rattle.srs_text.specs.Spelling.{IsNumber}
 use Rattle.srs_path.specs.Views.{Budget, IsBudget}
 use Rattle.srs_tool.specs.declared.words.Command.{Command}
-use Rattle.srs_tool.specs.declared.words.Command.TheVariants.{Certify}
+use Rattle.srs_tool.specs.declared.words.Command.TheVariants.{Certify, Check}
 
 -- three numbers, in their one spelling, that are a depth, a number of cells and a number of witnesses
 pub record SpellsLimits (depth cells wits : List ℕ) (b : Budget) : Type 0 where
@@ -23,7 +23,9 @@ pub record AsksCertify (words : List (List ℕ)) (b : Budget) : Type 0 where
 -- the words ask for the command
 abbrev pub Asks : List (List ℕ) → Command → Type 0
 Asks words (Certify limits) = AsksCertify words limits
+Asks words Check = words ≡ codes "check" ∷ []
 
 -- the longest input that the command takes, in bytes
 abbrev pub longest_input : Command → ℕ
 longest_input (Certify limits) = 2 ^ 20
+longest_input Check = 2 ^ 27

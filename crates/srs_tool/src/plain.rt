@@ -4,10 +4,11 @@ ghost use Rattle.std.specs.Io.KnownBytes.{Appends};
 ghost use Rattle.srs_text.specs.Ends.{Rose, AppendsFront};
 ghost use Rattle.srs_tool.specs.declared.words.Command.{Command};
 ghost use Rattle.srs_tool.specs.Words.{Asks, longest_input};
-ghost use Rattle.srs_tool.specs.Output.{refused_long};
+ghost use Rattle.srs_tool.specs.Output.{refused_long, EndsWell};
 ghost use Rattle.srs_tool.specs.Ends.{Completes, StopsShort, Overruns, IsGoodRun, AnswersFor, BreaksFor, IsOverlong, Tells};
 
 use crate::certify::certify;
+use crate::check::check;
 use crate::say::say;
 use crate::status::Status;
 use crate::words::{Command, command_of};
@@ -16,12 +17,14 @@ use std::alloc::Global;
 
 /// Does what the words ask for: reads the source, and writes to the sink.
 ///
-/// At `Done` of `certify` the source was read to its end, its bytes are the text of a polygon, and its certificate was
-/// written: the plan of the polygon's region in preorder. The leaves of the plan partition the region; each point of a
-/// cell that is inside is finite, and at each point of one that is outside the printed cycle comes back. At `Refused`
-/// the bytes are the text of no polygon, and what was written names the first slip and its line. A good input of at
-/// most 2^20 bytes ends with `Done` or `NoMemory`, unless an end fails. After a refusal the source has lost what was
-/// taken from it; at `NoMemory` nothing was written.
+/// At `Done` the source was read to its end, and what the command owes was written. `certify`: the bytes are the text of
+/// a polygon, and its certificate was written, which lists the plan of its region. The leaves of the plan partition the
+/// region; each point of a cell that is inside is finite, and at each point of one that is outside the printed cycle
+/// comes back. `check`: the bytes are the text of a certificate, each node of which proves itself, and so the same holds
+/// of its leaves. At `Bad` of `check` what was written names the first node that doesn't, and its fault. At `Refused`
+/// the bytes are no input of the command, and what was written names the first slip and its line. A good input of at
+/// most 2^20 bytes, or 2^27 for `check`, ends well or for want of memory, unless an end fails. After a refusal the
+/// source has lost what was taken from it; at `NoMemory` nothing was written.
 pub fn plain<S: Source, K: Sink>(
     alloc: Global,
     words: &[String],
@@ -34,6 +37,8 @@ pub fn plain<S: Source, K: Sink>(
 
     ensures done { result ≡ Status.Done →
         Completes (map string_bytes words.now) Status.Done (S.left source.old) (S.left source.new) (K.got sink.old) (K.got sink.new) }
+    ensures bad { result ≡ Status.Bad →
+        Completes (map string_bytes words.now) Status.Bad (S.left source.old) (S.left source.new) (K.got sink.old) (K.got sink.new) }
     ensures refused { result ≡ Status.Refused →
         Completes (map string_bytes words.now) Status.Refused (S.left source.old) (S.left source.new) (K.got sink.old) (K.got sink.new) }
 
@@ -45,9 +50,8 @@ pub fn plain<S: Source, K: Sink>(
     ensures long { result ≡ Status.TooLong →
         Overruns (map string_bytes words.now) (S.left source.old) (S.left source.new) × Appends (K.got sink.old) (K.got sink.new) refused_long }
     ensures memory { result ≡ Status.NoMemory → sink.new ≡ sink.old }
-    ensures bad { result ≢ Status.Bad }
-    ensures complete { IsGoodRun (map string_bytes words.now) (S.left source.old) → ¬ (Rose (S.faults source.old) (S.faults source.new))
-        → ¬ (Rose (K.faults sink.old) (K.faults sink.new)) → (result ≡ Status.Done) ⊎ (result ≡ Status.NoMemory) }
+    ensures complete { (good : IsGoodRun (map string_bytes words.now) (S.left source.old)) → ¬ (Rose (S.faults source.old) (S.faults source.new))
+        → ¬ (Rose (K.faults sink.old) (K.faults sink.new)) → EndsWell good.command result }
 {
     match command_of(words) {
         Some(command) => read_and_answer(alloc, &command, source, sink),
@@ -62,9 +66,11 @@ fn read_and_answer<S: Source, K: Sink>(
     source: &mut S,
     sink: &mut K,
 ) -> Status
-    ensures other { (result ≢ Status.Usage) × (result ≢ Status.Bad) }
+    ensures other { result ≢ Status.Usage }
     ensures done { result ≡ Status.Done →
         AnswersFor command.now Status.Done (S.left source.old) (S.left source.new) (K.got sink.old) (K.got sink.new) }
+    ensures bad { result ≡ Status.Bad →
+        AnswersFor command.now Status.Bad (S.left source.old) (S.left source.new) (K.got sink.old) (K.got sink.new) }
     ensures refused { result ≡ Status.Refused →
         AnswersFor command.now Status.Refused (S.left source.old) (S.left source.new) (K.got sink.old) (K.got sink.new) }
     ensures read { result ≡ Status.ReadFault → Rose (S.faults source.old) (S.faults source.new) × (sink.new ≡ sink.old) }
@@ -90,6 +96,7 @@ fn limit_of(command: &Command) -> u64
 {
     match command {
         Command::Certify(_) => 1 << 20,
+        Command::Check => 1 << 27,
     }
 }
 
@@ -101,5 +108,6 @@ fn answer<K: Sink>(alloc: Global, command: &Command, input: &[u8], sink: &mut K)
 {
     match command {
         Command::Certify(limits) => certify(alloc, limits, input, sink),
+        Command::Check => check(alloc, input, sink),
     }
 }

@@ -13,6 +13,8 @@ use srs_text::number;
 pub enum Command {
     /// To divide the polygon that is read, and print its certificate.
     Certify(Limits),
+    /// To check the certificate that is read.
+    Check,
 }
 
 /// The command that the words ask for, where they are in one of the forms that the program knows.
@@ -20,10 +22,29 @@ pub fn command_of(words: &[String]) -> Option<Command>
     ensures some { IfSome result (Asks (map string_bytes words.now)) }
     ensures none { IfNone result ((command : Command) → Asks (map string_bytes words.now) command → ⊥) }
 {
+    if asks_check(words) {
+        return Some(Command::Check);
+    }
     match certify_limits(words) {
         Some(limits) => Some(Command::Certify(limits)),
         None => None,
     }
+}
+
+// Whether the one word is `check`.
+fn asks_check(words: &[String]) -> bool
+    ensures { IsTrue result ↔ (map string_bytes words.now ≡ codes "check" ∷ []) }
+{
+    let [word] = words else {
+        return false;
+    };
+    is_check(word.as_str())
+}
+
+fn is_check(word: &str) -> bool
+    ensures { IsTrue result ↔ (word.now ≡ codes "check") }
+{
+    word == "check"
 }
 
 // The limits behind `certify`.
