@@ -22,3 +22,6 @@ pub mod PlannedSteps
 pub mod Bounded
 pub mod Opened
 pub mod RoundCounts
+pub mod Ways
+pub mod Meeting
+pub mod Clipping

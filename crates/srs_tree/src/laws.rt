@@ -1,7 +1,8 @@
-// The laws of histories.
+// The laws of histories and of answers.
 ghost use Rattle.srs_tree.specs.Legality.{LegalIsPartition, LegalIsSound};
 ghost use Rattle.srs_tree.specs.Snapshots.{SnapshotsStand, SnapshotsGrow};
 ghost use Rattle.srs_tree.specs.Rounds.{PlansAreSame, PlannedIsWhole};
+ghost use Rattle.srs_tree.specs.Answers.{AnswersAreOne};
 ghost use Rattle.srs_tree.specs.Queue.{QueueIsOpen, PlannedEnds};
 
 /// The leaves of each legal history partition its root region, where that has a point, and what each of its events claims
@@ -18,4 +19,9 @@ pub fn histories()
     ensures ends { PlannedEnds }
     ensures stands { SnapshotsStand }
     ensures grows { SnapshotsGrow }
+{}
+
+/// A version has at most one answer at a point; `Version::locate` gives it.
+pub fn one_answer()
+    ensures { AnswersAreOne }
 {}
