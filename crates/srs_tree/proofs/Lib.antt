@@ -24,3 +24,6 @@ pub mod Opened
 pub mod RoundCounts
 pub mod FewEntries
 pub mod Listed
+pub mod Ways
+pub mod Meeting
+pub mod Clipping

@@ -29,7 +29,7 @@ pub sign_of : (s : Side) (h : LinearForm) (r : Point) → IsInHalf (half_on s h)
 sign_of Ge h r k = k
 sign_of Lt h r k = let e = value-opposite h r in omega (arith, ints, e)
 
-one_sign : (s t : Side) (v : ℤ) → Sign s v → Sign t v → s ≡ t
+pub one_sign : (s t : Side) (v : ℤ) → Sign s v → Sign t v → s ≡ t
 one_sign Ge Ge v h k = refl
 one_sign Ge Lt v h k = absurd (omega (arith, ints))
 one_sign Lt Ge v h k = absurd (omega (arith, ints))

@@ -7,3 +7,5 @@ pub mod Queue
 pub mod Nodes
 pub mod Preorder
 pub mod WholeTrees
+pub mod Answers
+pub mod Clips

@@ -2,14 +2,14 @@
 use Rattle.std.specs.Prelude.{◌≡◌, ◌≢◌, ℕ, ◌+◌, ◌<◌, ◌≤◌, List, [], ◌∷◌, ◌++◌, AllPairs, length, map, slice_get, slice_set, Some, None}
 use Rattle.std.specs.declared.option.Option.{Option}
 use Rattle.std.specs.FinMap as finite
-use Rattle.srs_num.specs.Points.{LinearForm}
-use Rattle.srs_plane.specs.Regions.{Area, HasPoint}
+use Rattle.srs_num.specs.Points.{Point, LinearForm}
+use Rattle.srs_plane.specs.Regions.{Area, IsIn, IsInHalf, HasPoint}
 use Rattle.srs_path.specs.declared.paths.Side.{Side}
 use Rattle.srs_path.specs.declared.paths.Side.TheVariants.{Ge, Lt}
 use Rattle.srs_path.specs.declared.outcomes.Outcome.{Outcome}
 use Rattle.srs_path.specs.declared.outcomes.Outcome.TheVariants.{Inside, Outside, Cut, Left}
 use Rattle.srs_path.specs.Views.{Found}
-use Rattle.srs_tree.specs.Tree.{Tree, IsCellOf, half_on}
+use Rattle.srs_tree.specs.Tree.{Tree, IsCellOf, HoldsAt, half_on}
 use Rattle.srs_tree.specs.Snapshots.{Entries, Snapshot, tree_of, with_entry}
 use Rattle.srs_tree.specs.Queue.{WaitingCell}
 use Rattle.srs_tree.specs.Growth.{IsProvedOf, IsShortCut, MayEnter}
@@ -137,3 +137,20 @@ pub record HasGrown (xs ys : List Spot) (p : List Side) (f : Found) : Type 0 whe
   pub snapshot : snapshot_of ys ≡ with_entry (snapshot_of xs) p f.outcome
   pub count : finite.len (entries_of ys) ≡ finite.len (entries_of xs) + 1
   pub few : finite.len (entries_of xs) < length xs
+
+-- the spot at the place i holds each point of the region
+abbrev pub HoldsAll : List Spot → ℕ → Area → Type 0
+HoldsAll xs i R = (x : Spot) → slice_get xs i ≡ Some x → (r : Point) → IsIn R r → IsIn x.region r
+
+-- the spot y is the leaf that holds r, and has its outcome
+pub record IsLeafFor (xs : List Spot) (r : Point) (y : Spot) : Type 0 where
+  pub holds : HoldsAt (root_of xs) (spots_tree xs) r y.path
+  pub outcome : spots_tree xs y.path ≡ y.outcome
+
+-- the part of the spot x at the place i is on the side s of its cut, as r is
+pub record IsPartWith (x : Spot) (r : Point) (i : ℕ) : Type 0 where
+  pub form : LinearForm
+  pub side : Side
+  pub cut : x.outcome ≡ Some (Cut form)
+  pub place : i ≡ part_place x.parts side
+  pub inside : IsInHalf (half_on side form) r

@@ -1,7 +1,8 @@
-// The laws of histories.
+// The laws of histories and of answers.
 ghost use Rattle.srs_tree.specs.Legality.{LegalIsPartition, LegalIsSound};
 ghost use Rattle.srs_tree.specs.Snapshots.{SnapshotsStand, SnapshotsGrow};
 ghost use Rattle.srs_tree.specs.Rounds.{PlansAreSame, PlannedIsWhole};
+ghost use Rattle.srs_tree.specs.Answers.{AnswersAreOne};
 ghost use Rattle.srs_tree.specs.Queue.{QueueIsOpen, QueueIsInOrder, PlannedEnds};
 ghost use Rattle.srs_tree.specs.WholeTrees.{WholeIsBounded, WholeIsListed};
 
@@ -27,4 +28,9 @@ pub fn histories()
 pub fn whole_trees()
     ensures bounded { WholeIsBounded }
     ensures listed { WholeIsListed }
+{}
+
+/// A version has at most one answer at a point; `Version::locate` gives it.
+pub fn one_answer()
+    ensures { AnswersAreOne }
 {}

@@ -1,18 +1,24 @@
 //! The tree of a history: its cells, when a history is legal, and plans; and versions of a tree.
 #![tactic(auto)]
 
+mod answers;
+mod descents;
 mod growth;
 mod journals;
 mod laws;
+mod meetings;
 mod nodes;
+mod queries;
 mod refusals;
 mod sharing;
 mod versions;
 mod waiting;
 mod walks;
 
+pub use answers::{Answer, Met, Reply};
 pub use journals::Journal;
-pub use laws::{histories, whole_trees};
+pub use laws::{histories, one_answer, whole_trees};
+pub use queries::{Queries, Query, Said};
 pub use refusals::TreeErr;
 pub use sharing::shared;
 pub use versions::Version;

@@ -2,17 +2,19 @@
 ghost use Rattle.std.specs.Prelude.{◌≡◌, length, ◌+◌, ◌<◌, ◌^◌, Some, None, IfOk, IfErr, IfSome, IfNone, MatchOption, OnErr};
 ghost use Rattle.srs_num.specs.Points.{LinearForm};
 ghost use Rattle.srs_path.specs.declared.outcomes.Outcome.TheVariants.{Cut as IsCut};
-ghost use Rattle.srs_tree.specs.Nodes.{Spot, AreSpots, IsPlaceOf, part_place, spots_tree, waiting_of};
+ghost use Rattle.srs_tree.specs.Nodes.{Spot, AreSpots, IsPlaceOf, part_place, spots_tree, waiting_of, IsPartWith};
+ghost use Rattle.srs_tree.specs.Answers.{reply_of, reply_by};
 ghost use Rattle.srs_tree.specs.Growth.{IsLongestCell};
 ghost use Rattle.srs_tree.specs.Tree.{IsCellOf};
 
-use crate::Pending;
+use crate::{Answer, Pending};
 use srs_cell::Cell;
-use srs_num::NoMemory;
+use srs_num::{Form, NoMemory, Pt, Steps};
 use srs_path::{Outcome, Path, Side};
 use std::alloc::Global;
 use std::marker::Model;
 use std::sync::Arc;
+use std::sync::ledger::Ledger;
 
 // A cell of the tree. Where its outcome is a cut, the Ge part stands at the place `parts`, and the Lt part after it.
 #[derive(Drop)]
@@ -84,6 +86,47 @@ impl Node {
                 Side::Lt => self.parts + 1,
             }),
             _ => None,
+        }
+    }
+
+    // The form of its cut, if it has one, with the place of the Ge part.
+    pub(crate) fn cut(&self) -> Option<(&Form, usize)>
+        ensures { MatchOption result ((h : LinearForm) → self.now.outcome ≡ Some (IsCut h) → ⊥) (λ cut. (self.now.outcome ≡ Some (IsCut cut.0.now)) × (cut.1 ≡ self.now.parts)) }
+    {
+        match (self.outcome()?).as_ref() {
+            Outcome::Cut(form) => Some((form, self.parts)),
+            _ => None,
+        }
+    }
+
+    // The place of the part that is on the point's side of the cut, if there is a cut. It is one step.
+    pub(crate) fn part_with<L: Ledger>(&self, r: &Pt, steps: &mut Steps<L>) -> Option<usize>
+        requires { (h : LinearForm) → self.now.outcome ≡ Some (IsCut h) → self.now.parts + 1 < 2 ^ 64 }
+        ensures none { IfNone result ((h : LinearForm) → self.now.outcome ≡ Some (IsCut h) → ⊥) }
+        ensures some { IfSome result (λ i. IsPartWith self.now r.now i) }
+        ensures no_step { IfNone result (steps.new ≡ steps.old) }
+        ensures one_step { IfSome result (λ _. steps.new ≡ steps.old + 1) }
+    {
+        let (form, ge) = self.cut()?;
+        if form.at(r, steps) >= 0 {
+            Some(ge)
+        } else {
+            Some(ge + 1)
+        }
+    }
+
+    // What the cell answers where it is a leaf.
+    pub(crate) fn answer(&self) -> Answer<'_>
+        ensures { reply_of result ≡ reply_by self.now.outcome }
+    {
+        let Some(outcome) = self.outcome() else {
+            return Answer::Undecided(None);
+        };
+        match outcome.as_ref() {
+            Outcome::Inside(_) => Answer::Inside,
+            Outcome::Outside(cycle) => Answer::Outside(cycle),
+            Outcome::Cut(_) => Answer::Undecided(None),
+            Outcome::Left(cause) => Answer::Undecided(Some(*cause)),
         }
     }
 

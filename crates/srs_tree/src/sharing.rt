@@ -1,10 +1,14 @@
 // Threads pass versions, journals and refusals on and share them.
-use crate::{Journal, Pending, TreeErr, Version};
+use crate::{Answer, Journal, Pending, Queries, Reply, Said, TreeErr, Version};
 
 fn is_shared<T: Send + Sync>() {}
 
-/// Threads may pass versions, journals, open cells and refusals on and share them: that it is compiled shows it.
+/// Threads may pass versions, journals, open cells, refusals, questions and answers on and share them: that it is compiled shows it.
 pub fn shared() {
+    is_shared::<Answer<'_>>();
+    is_shared::<Reply>();
+    is_shared::<Said>();
+    is_shared::<Queries>();
     is_shared::<Version>();
     is_shared::<Journal>();
     is_shared::<Pending>();

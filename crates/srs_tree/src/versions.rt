@@ -1,22 +1,28 @@
 // Versions of a tree.
 ghost use Rattle.std.specs.Prelude.{◌≡◌, ◌≤◌, [], length, map as map_list, None, Some, IfOk, IfErr, OnOk, OnErr, MatchOption};
 ghost use Rattle.std.specs.FinMap as map;
+ghost use Rattle.srs_plane.specs.Regions.{IsIn};
+ghost use Rattle.srs_tree.specs.Tree.{HoldsAt};
+ghost use Rattle.srs_tree.specs.Answers.{Answers, IsDescent, IsMet, reply_of};
 ghost use Rattle.srs_tree.specs.Snapshots.{tree_of, with_entry};
 ghost use Rattle.srs_tree.specs.Preorder.{preorder_of};
 ghost use Rattle.srs_tree.specs.Rounds.{parts_by};
 ghost use Rattle.srs_tree.specs.Queue.{cell_in, cells_from};
 ghost use Rattle.srs_tree.specs.Growth.{IsVersion, IsShortCut, MayEnter, IsTreeErr};
 
+use crate::descents::leaf_with;
 use crate::growth::{add_to, place_for};
+use crate::meetings::met_by;
 use crate::nodes::{Node, copied, outcome_at};
 use crate::walks::walk;
-use crate::{Journal, Pending, TreeErr};
+use crate::{Answer, Journal, Met, Pending, TreeErr};
 use srs_cell::Cell;
-use srs_num::NoMemory;
+use srs_num::{NoMemory, Pt, Steps};
 use srs_path::{Finding, Outcome, Path};
 use std::alloc::Global;
 use std::marker::Model;
 use std::sync::Arc;
+use std::sync::ledger::Ledger;
 
 /// A region of at most 16 halves, and the outcomes that were found of the cells of its tree. Each path with an outcome is
 /// the root, or its parent has a cut; and each outcome that is inside, outside or a cut is sound on its cell.
@@ -78,6 +84,39 @@ impl Version {
         ensures { MatchOption result (tree_of self.now path ≡ None) (λ o. tree_of self.now path ≡ Some o.now) }
     {
         outcome_at(&self.nodes, &path)
+    }
+
+    /// The answer at the point. It takes at most one step for each of the region's halves, and one for each cut on the way
+    /// to the leaf that holds the point; no memory.
+    pub fn locate<'v, L: Ledger>(&'v self, r: &Pt, steps: &mut Steps<L>) -> Answer<'v>
+        ensures answer { Answers self.now.region (tree_of self.now) r.now (reply_of result) }
+        ensures at_most { IsDescent self.now.region (tree_of self.now) r.now steps.old steps.new }
+    {
+        match leaf_with(&self.nodes, r, steps) {
+            Some(leaf) => leaf.answer(),
+            None => Answer::Beyond,
+        }
+    }
+
+    /// The path of the leaf that holds the point. `None` exactly where the answer is beyond. The steps are those of
+    /// `locate`.
+    pub fn leaf<L: Ledger>(&self, r: &Pt, steps: &mut Steps<L>) -> Option<Path>
+        ensures leaf { MatchOption result (IsIn self.now.region r.now → ⊥) (λ path. HoldsAt self.now.region (tree_of self.now) r.now path) }
+        ensures at_most { IsDescent self.now.region (tree_of self.now) r.now steps.old steps.new }
+    {
+        match leaf_with(&self.nodes, r, steps) {
+            Some(leaf) => Some(leaf.path()),
+            None => None,
+        }
+    }
+
+    /// For each kind of answer, whether some point of the cell has it, for a cell of at most 16 halves. An `Err` is want of
+    /// memory.
+    pub fn meet(&self, alloc: Global, q: &Cell) -> Result<Met, NoMemory>
+        requires { length q.now ≤ 16 }
+        ensures { IfOk result (λ met. IsMet self.now.region (tree_of self.now) q.now met) }
+    {
+        met_by(alloc, &self.nodes, q)
     }
 
     /// An equal version.

@@ -1,0 +1,3 @@
+pub mod Extremes
+pub mod Rows
+pub mod Spans
