@@ -1,8 +1,13 @@
-use Rattle.std.proofs.Common.{◌≡◌, ℕ, refl, sym, ap, ◌∙◌, slice_get, Some, true≢false}
-use Rattle.std.proofs.lemmas.Option.{same_Some}
+use Rattle.std.proofs.Common.{◌≡◌, ℕ, refl, sym, ap, ◌∙◌, slice_get, Some, true≢false, arith}
+use Rattle.std.proofs.lemmas.Option.{same_Some, slice_get_within}
 use Rattle.srs_num.specs.declared.pairs.V2.{V2}
 use Rattle.srs_check.proofs.PlaceLemmas.{not_listed, next_place, from_place}
 use Rattle.srs_check.proofs.places.rank_at.Goals as goal
+
+pub returns-then-place-len-clause-none : goal.returns-then-place-len-clause-none
+returns-then-place-len-clause-none c =
+    not_listed c.args.ranks.now c.len.ensures.list c.args.w c.args.place c.requires
+    (λ n e. omega (arith, slice_get_within c.args.ranks.now c.args.place (c.args.w, n) e, c.len.ensures.len, c.if-place-len.true))
 
 pub returns-then-not-is_same-clause-none : goal.returns-then-not-is_same-clause-none
 returns-then-not-is_same-clause-none c =
