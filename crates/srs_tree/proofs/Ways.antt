@@ -6,7 +6,7 @@ use Rattle.std.proofs.lemmas.Option.{same_Some, slice_get_within}
 use Rattle.srs_num.specs.Points.{Point, LinearForm, value}
 use Rattle.srs_plane.specs.declared.halves.Half.{Half}
 use Rattle.srs_plane.specs.Regions.{Area, IsIn, IsInHalf}
-use Rattle.srs_plane.proofs.Members.{IsIn-push}
+use Rattle.srs_plane.proofs.Members.{IsIn-push, IsIn-front, IsIn-last}
 use Rattle.srs_path.specs.declared.paths.Side.{Side}
 use Rattle.srs_path.specs.declared.paths.Side.TheVariants.{Ge}
 use Rattle.srs_path.specs.declared.outcomes.Outcome.{Outcome}
@@ -17,7 +17,7 @@ use Rattle.srs_tree.specs.Snapshots.{Snapshot, tree_of}
 use Rattle.srs_tree.specs.Answers.{IsDescent}
 use Rattle.srs_tree.proofs.Descent.{spots_closed}
 use Rattle.srs_tree.proofs.Trees.{IsClosed, prefix_cell, none_below, parent_cut}
-use Rattle.srs_tree.proofs.TreeCut.{one_sign, sign_of}
+use Rattle.srs_tree.proofs.TreeCut.{Sign, one_sign, sign_of, on_side}
 use Rattle.srs_tree.proofs.Spots.{tree_there}
 use Rattle.srs_tree.proofs.Regions.{spot_region}
 use Rattle.srs_tree.proofs.Below.{depth_at, part_deeper, path_depth}
@@ -149,3 +149,21 @@ module _ (xs : List Spot) (tree : AreSpots xs) (i : ℕ) (x : Spot) (e : slice_g
         let deeper = part_deeper xs tree i x e t.spot j s t.is t.path in
         let short = path_depth xs i x e x.path refl in
         omega (arith, deeper, short, l)
+
+    -- what is asked of a walk that goes down to the part
+    pub goes : HoldsAll xs i C → length C ≤ 32 + length x.path → length x.path < 48 → (t : ℕ) → 49 - depth_at xs i ≡ t
+        → (49 - depth_at xs j < t) × (AreSpots xs × ((j < length xs) × (HoldsAll xs j D × ((y : Spot) → slice_get xs j ≡ Some y → length D ≤ 32 + length y.path))))
+    goes all few short t is = (subst (λ (n : ℕ). 49 - depth_at xs j < n) is (piece_falls short), (tree, (piece_there, (piece_holds all, piece_few few))))
+
+  -- the part of a region on the side s, cut off by the form
+  pub cut_piece : (C D : Area) (h : LinearForm) (s : Side) (j : ℕ) → x.outcome ≡ Some (Cut h) → j ≡ part_place x.parts s → D ≡ C ++ half_on s h ∷ [] → IsPiece C D h s j
+  cut_piece C D h s j cut place is = record {
+    cut = cut;
+    place = place;
+    within = λ r k. let both : IsIn (C ++ half_on s h ∷ []) r = subst (λ (R : Area). IsIn R r) is k in (IsIn-front C (half_on s h) r both, IsIn-last C (half_on s h) r both);
+    few = omega (arith, ap length is, length-append C (half_on s h ∷ []));
+  }
+
+  -- a region that is on the side s whole
+  pub whole_piece : (C : Area) (h : LinearForm) (s : Side) (j : ℕ) → x.outcome ≡ Some (Cut h) → j ≡ part_place x.parts s → ((r : Point) → IsIn C r → Sign s (value h r)) → IsPiece C C h s j
+  whole_piece C h s j cut place all = record { cut = cut; place = place; within = λ r k. (k, on_side s h r (all r k)); few = omega arith }

@@ -45,6 +45,7 @@ Answers Root T r a = ((IsIn Root r → ⊥) × (a ≡ SaysBeyond)) ⊎ IsByLeaf 
 abbrev pub Meets : Area → Tree → Area → (Reply → Type 0) → Type 0
 Meets Root T Q Asked = (r : Point) × (a : Reply) × IsIn Q r × Answers Root T r a × Asked a
 
+-- the kinds of answers
 abbrev pub IsInside : Reply → Type 0
 IsInside a = a ≡ SaysInside
 
@@ -64,6 +65,7 @@ pub record IsMarked (Comes : (Reply → Type 0) → Type 0) (m : Met) : Type 0 w
   pub undecided : IsTrue m.undecided ↔ Comes IsUndecided
   pub beyond : IsTrue m.beyond ↔ Comes IsBeyond
 
+-- no kind comes
 abbrev pub no_kind : Met
 no_kind = record { inside = false; outside = false; undecided = false; beyond = false }
 

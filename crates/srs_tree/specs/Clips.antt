@@ -1,4 +1,4 @@
--- What a cell leaves of another region's points.
+-- What a cell has inside something.
 use Rattle.std.specs.Prelude.{◌≡◌, ◌↔◌, false, IsTrue, MatchOption}
 use Rattle.srs_num.specs.Points.{Point}
 use Rattle.srs_plane.specs.Regions.{Area, IsIn}

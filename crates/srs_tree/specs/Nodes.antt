@@ -147,7 +147,7 @@ pub record IsLeafFor (xs : List Spot) (r : Point) (y : Spot) : Type 0 where
   pub holds : HoldsAt (root_of xs) (spots_tree xs) r y.path
   pub outcome : spots_tree xs y.path ≡ y.outcome
 
--- the part of the spot x at the place i is on the side s of its cut, as r is
+-- the place i is that of the part of x that is on r's side of its cut
 pub record IsPartWith (x : Spot) (r : Point) (i : ℕ) : Type 0 where
   pub form : LinearForm
   pub side : Side

@@ -1,16 +1,14 @@
 -- A leaf's one answer, and the answers of the two parts of a cut.
-use Rattle.std.proofs.Common.{ℕ, ◌-◌, ◌+◌, ◌<◌, ◌∷◌, ◌++◌, [], length, length-append, sym, ap, ◌∙◌, subst, arith}
-use Rattle.srs_plane.specs.Regions.{Area, IsIn, ge_side, lt_side}
-use Rattle.srs_plane.proofs.Members.{IsIn-front, IsIn-last}
+use Rattle.std.proofs.Common.{◌+◌, sym, ap, ◌∙◌, subst, arith}
+use Rattle.srs_plane.specs.Regions.{Area}
 use Rattle.srs_cell.specs.Parts.{AreParts, AreBoth}
 use Rattle.srs_path.specs.declared.paths.Side.TheVariants.{Ge, Lt}
 use Rattle.srs_tree.specs.Nodes.{root_of, spots_tree}
 use Rattle.srs_tree.specs.Answers.{reply_of, reply_by, IsMarked, IsMet}
-use Rattle.srs_tree.proofs.Below.{depth_at, read_at}
+use Rattle.srs_tree.proofs.Below.{read_at}
 use Rattle.srs_tree.proofs.Descent.{lt_within, spots_closed}
 use Rattle.srs_tree.proofs.Spots.{tree_there}
-use Rattle.srs_tree.proofs.TreeCut.{on_side}
-use Rattle.srs_tree.proofs.Ways.{leaf_for, shorter, IsPiece, piece_there, piece_holds, piece_few, piece_falls}
+use Rattle.srs_tree.proofs.Ways.{leaf_for, shorter, cut_piece, whole_piece, goes}
 use Rattle.srs_tree.proofs.Meeting.{kind_marked, met_leaf, met_both}
 use Rattle.srs_tree.proofs.meetings.+met_below.Goals as goal
 
@@ -47,18 +45,12 @@ met_below-requires t c =
     let f = read_at xs c.args.i x c.requires.there c.index-nodes-i.is in
     let h = c.in-Some.form.now in
     let C : Area = c.args.cell.now in
+    let cut = c.in-Some.ensures in
+    let short = shorter xs c.requires.spots c.args.i x f h cut.0 c.in-Some.ge cut.1 c.path_at-path.result c.path_at-path.ensures (omega (arith, c.len.ensures.len, c.len.ensures.short)) in
     let D : Area = c.in-Both.above in
-    let both : AreBoth C h D c.in-Both.below = subst (AreParts C h) c.in-Both.is c.in_ok-above.ensures in
-    let short = shorter xs c.requires.spots c.args.i x f h c.in-Some.ensures.0 c.in-Some.ge c.in-Some.ensures.1 c.path_at-path.result c.path_at-path.ensures (omega (arith, c.len.ensures.len, c.len.ensures.short)) in
-    let piece : IsPiece xs c.requires.spots c.args.i x f C D h Ge c.in-Some.ge = record {
-      cut = c.in-Some.ensures.0;
-      place = c.in-Some.ensures.1;
-      within = λ r k. let j : IsIn (C ++ ge_side h ∷ []) r = subst (λ (R : Area). IsIn R r) both.above k in (IsIn-front C (ge_side h) r j, IsIn-last C (ge_side h) r j);
-      few = omega (arith, ap length both.above, length-append C (ge_side h ∷ []));
-    } in (
-      subst (λ (n : ℕ). 49 - depth_at xs c.in-Some.ge < n) c.decreases (piece_falls xs c.requires.spots c.args.i x f C D h Ge c.in-Some.ge piece short),
-      (c.requires.spots, (piece_there xs c.requires.spots c.args.i x f C D h Ge c.in-Some.ge piece, (piece_holds xs c.requires.spots c.args.i x f C D h Ge c.in-Some.ge piece c.requires.holds, piece_few xs c.requires.spots c.args.i x f C D h Ge c.in-Some.ge piece (c.requires.few x f)))),
-    )
+    let both : AreBoth C h c.in-Both.above c.in-Both.below = subst (AreParts C h) c.in-Both.is c.in_ok-above.ensures in
+    let piece = cut_piece xs c.requires.spots c.args.i x f C D h Ge c.in-Some.ge cut.0 cut.1 both.above in
+    goes xs c.requires.spots c.args.i x f C D h Ge c.in-Some.ge piece c.requires.holds (c.requires.few x f) short t c.decreases
 
 pub overflow_add-ge : goal.overflow_add-ge
 overflow_add-ge t c =
@@ -75,18 +67,12 @@ met_below-requires-in-Both t c =
     let f = read_at xs c.args.i x c.requires.there c.index-nodes-i.is in
     let h = c.in-Some.form.now in
     let C : Area = c.args.cell.now in
+    let cut = c.in-Some.ensures in
+    let short = shorter xs c.requires.spots c.args.i x f h cut.0 c.in-Some.ge cut.1 c.path_at-path.result c.path_at-path.ensures (omega (arith, c.len.ensures.len, c.len.ensures.short)) in
     let D : Area = c.in-Both.below in
-    let both : AreBoth C h c.in-Both.above D = subst (AreParts C h) c.in-Both.is c.in_ok-above.ensures in
-    let short = shorter xs c.requires.spots c.args.i x f h c.in-Some.ensures.0 c.in-Some.ge c.in-Some.ensures.1 c.path_at-path.result c.path_at-path.ensures (omega (arith, c.len.ensures.len, c.len.ensures.short)) in
-    let piece : IsPiece xs c.requires.spots c.args.i x f C D h Lt (c.in-Some.ge + 1) = record {
-      cut = c.in-Some.ensures.0;
-      place = ap (λ n. n + 1) c.in-Some.ensures.1;
-      within = λ r k. let j : IsIn (C ++ lt_side h ∷ []) r = subst (λ (R : Area). IsIn R r) both.below k in (IsIn-front C (lt_side h) r j, IsIn-last C (lt_side h) r j);
-      few = omega (arith, ap length both.below, length-append C (lt_side h ∷ []));
-    } in (
-      subst (λ (n : ℕ). 49 - depth_at xs (c.in-Some.ge + 1) < n) c.decreases (piece_falls xs c.requires.spots c.args.i x f C D h Lt (c.in-Some.ge + 1) piece short),
-      (c.requires.spots, (piece_there xs c.requires.spots c.args.i x f C D h Lt (c.in-Some.ge + 1) piece, (piece_holds xs c.requires.spots c.args.i x f C D h Lt (c.in-Some.ge + 1) piece c.requires.holds, piece_few xs c.requires.spots c.args.i x f C D h Lt (c.in-Some.ge + 1) piece (c.requires.few x f)))),
-    )
+    let both : AreBoth C h c.in-Both.above c.in-Both.below = subst (AreParts C h) c.in-Both.is c.in_ok-above.ensures in
+    let piece = cut_piece xs c.requires.spots c.args.i x f C D h Lt (c.in-Some.ge + 1) cut.0 (ap (λ n. n + 1) cut.1) both.below in
+    goes xs c.requires.spots c.args.i x f C D h Lt (c.in-Some.ge + 1) piece c.requires.holds (c.requires.few x f) short t c.decreases
 
 pub met_below-requires-in-AllGe : goal.met_below-requires-in-AllGe
 met_below-requires-in-AllGe t c =
@@ -95,17 +81,11 @@ met_below-requires-in-AllGe t c =
     let f = read_at xs c.args.i x c.requires.there c.index-nodes-i.is in
     let h = c.in-Some.form.now in
     let C : Area = c.args.cell.now in
+    let cut = c.in-Some.ensures in
+    let short = shorter xs c.requires.spots c.args.i x f h cut.0 c.in-Some.ge cut.1 c.path_at-path.result c.path_at-path.ensures (omega (arith, c.len.ensures.len, c.len.ensures.short)) in
     let all = subst (AreParts C h) c.in-AllGe.is c.in_ok-above.ensures in
-    let short = shorter xs c.requires.spots c.args.i x f h c.in-Some.ensures.0 c.in-Some.ge c.in-Some.ensures.1 c.path_at-path.result c.path_at-path.ensures (omega (arith, c.len.ensures.len, c.len.ensures.short)) in
-    let piece : IsPiece xs c.requires.spots c.args.i x f C C h Ge c.in-Some.ge = record {
-      cut = c.in-Some.ensures.0;
-      place = c.in-Some.ensures.1;
-      within = λ r k. (k, on_side Ge h r (all r k));
-      few = omega arith;
-    } in (
-      subst (λ (n : ℕ). 49 - depth_at xs c.in-Some.ge < n) c.decreases (piece_falls xs c.requires.spots c.args.i x f C C h Ge c.in-Some.ge piece short),
-      (c.requires.spots, (piece_there xs c.requires.spots c.args.i x f C C h Ge c.in-Some.ge piece, (piece_holds xs c.requires.spots c.args.i x f C C h Ge c.in-Some.ge piece c.requires.holds, piece_few xs c.requires.spots c.args.i x f C C h Ge c.in-Some.ge piece (c.requires.few x f)))),
-    )
+    let piece = whole_piece xs c.requires.spots c.args.i x f C h Ge c.in-Some.ge cut.0 cut.1 all in
+    goes xs c.requires.spots c.args.i x f C C h Ge c.in-Some.ge piece c.requires.holds (c.requires.few x f) short t c.decreases
 
 pub overflow_add-ge-in-AllLt : goal.overflow_add-ge-in-AllLt
 overflow_add-ge-in-AllLt t c =
@@ -122,17 +102,11 @@ met_below-requires-in-AllLt t c =
     let f = read_at xs c.args.i x c.requires.there c.index-nodes-i.is in
     let h = c.in-Some.form.now in
     let C : Area = c.args.cell.now in
+    let cut = c.in-Some.ensures in
+    let short = shorter xs c.requires.spots c.args.i x f h cut.0 c.in-Some.ge cut.1 c.path_at-path.result c.path_at-path.ensures (omega (arith, c.len.ensures.len, c.len.ensures.short)) in
     let all = subst (AreParts C h) c.in-AllLt.is c.in_ok-above.ensures in
-    let short = shorter xs c.requires.spots c.args.i x f h c.in-Some.ensures.0 c.in-Some.ge c.in-Some.ensures.1 c.path_at-path.result c.path_at-path.ensures (omega (arith, c.len.ensures.len, c.len.ensures.short)) in
-    let piece : IsPiece xs c.requires.spots c.args.i x f C C h Lt (c.in-Some.ge + 1) = record {
-      cut = c.in-Some.ensures.0;
-      place = ap (λ n. n + 1) c.in-Some.ensures.1;
-      within = λ r k. (k, on_side Lt h r (all r k));
-      few = omega arith;
-    } in (
-      subst (λ (n : ℕ). 49 - depth_at xs (c.in-Some.ge + 1) < n) c.decreases (piece_falls xs c.requires.spots c.args.i x f C C h Lt (c.in-Some.ge + 1) piece short),
-      (c.requires.spots, (piece_there xs c.requires.spots c.args.i x f C C h Lt (c.in-Some.ge + 1) piece, (piece_holds xs c.requires.spots c.args.i x f C C h Lt (c.in-Some.ge + 1) piece c.requires.holds, piece_few xs c.requires.spots c.args.i x f C C h Lt (c.in-Some.ge + 1) piece (c.requires.few x f)))),
-    )
+    let piece = whole_piece xs c.requires.spots c.args.i x f C h Lt (c.in-Some.ge + 1) cut.0 (ap (λ n. n + 1) cut.1) all in
+    goes xs c.requires.spots c.args.i x f C C h Lt (c.in-Some.ge + 1) piece c.requires.holds (c.requires.few x f) short t c.decreases
 
 pub returns-in_ok-met_below-in-Both : goal.returns-in_ok-met_below-in-Both
 returns-in_ok-met_below-in-Both t c =
