@@ -1,18 +1,17 @@
 // The command `certify`.
 ghost use Rattle.std.specs.Prelude.{◌≡◌, ◌≤◌, ◌^◌, IfOk, length};
 ghost use Rattle.srs_plane.specs.Polygons.{IsPolygon, region_of};
-ghost use Rattle.srs_line.specs.declared.slip.Slip.{Slip};
 ghost use Rattle.srs_file.specs.Grammar.{SpellsPolygon};
-ghost use Rattle.srs_file.specs.PolygonReading.{FirstSlip};
 ghost use Rattle.srs_tool.specs.declared.words.Command.TheVariants.{Certify};
-ghost use Rattle.srs_tool.specs.Output.{SpellsNoPolygon, IsCertificateOf, refusal_line};
+ghost use Rattle.srs_tool.specs.Output.{IsCertificateOf};
 ghost use Rattle.srs_tool.specs.Ends.{Tells};
 
 use crate::rounds::rounds;
-use crate::say::{refusal, say};
+use crate::say::{refuse, say};
 use crate::status::Status;
+use crate::words::Command;
 use srs_cell::Cell;
-use srs_file::{Cert, FileErr, Slip, read_polygon};
+use srs_file::{Cert, FileErr, read_polygon};
 use srs_num::NoMemory;
 use srs_path::Limits;
 use srs_plane::Vertices;
@@ -28,30 +27,10 @@ pub fn certify<K: Sink>(alloc: Global, limits: &Limits, input: &[u8], sink: &mut
 {
     match read_polygon(alloc, input) {
         Ok((vertices, cell)) => answer(alloc, limits, input, vertices, cell, sink),
-        Err(FileErr::At(line, slip)) => refuse(alloc, limits, input, line, slip, sink),
+        Err(FileErr::At(line, slip)) => {
+            refuse(alloc, &Command::Certify(*limits), input, line, slip, sink)
+        }
         Err(FileErr::NoMemory) => Status::NoMemory,
-    }
-}
-
-// Refuses an input that is no polygon.
-fn refuse<K: Sink>(
-    alloc: Global,
-    limits: &Limits,
-    input: &[u8],
-    line: u32,
-    slip: Slip,
-    sink: &mut K,
-) -> Status
-    requires first { FirstSlip input.now line slip }
-    requires none { SpellsNoPolygon input.now }
-    ensures told { Tells (Certify limits.now) input.now result (K.got sink.old) (K.got sink.new) (K.faults sink.old) (K.faults sink.new) }
-    ensures memory { result ≡ Status.NoMemory → sink.new ≡ sink.old }
-{
-    let _limits = limits;
-    let _input = input;
-    match refusal(alloc, line, slip) {
-        Ok(text) => say(Status::Refused, sink, text.as_slice()),
-        Err(_) => Status::NoMemory,
     }
 }
 

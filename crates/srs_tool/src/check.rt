@@ -1,17 +1,15 @@
 // The command `check`.
 ghost use Rattle.std.specs.Prelude.{◌≡◌, ◌≤◌, ◌^◌, length};
-ghost use Rattle.srs_line.specs.declared.slip.Slip.{Slip};
 ghost use Rattle.srs_file.specs.Grammar.{SpellsCertificate};
-ghost use Rattle.srs_file.specs.CertReading.{FirstCertSlip};
 ghost use Rattle.srs_tool.specs.declared.words.Command.TheVariants.{Check};
-ghost use Rattle.srs_tool.specs.Output.{SpellsNoCertificate};
 ghost use Rattle.srs_tool.specs.Ends.{Tells};
 
-use crate::say::{refusal, say};
+use crate::say::{refuse, say};
 use crate::status::Status;
 use crate::verdicts::{bad, valid};
+use crate::words::Command;
 use srs_check::Checked;
-use srs_file::{Cert, FileErr, Slip, read_cert};
+use srs_file::{Cert, FileErr, read_cert};
 use srs_text::Sink;
 use std::alloc::Global;
 
@@ -23,22 +21,8 @@ pub fn check<K: Sink>(alloc: Global, input: &[u8], sink: &mut K) -> Status
 {
     match read_cert(alloc, input) {
         Ok(cert) => answer(alloc, input, &cert, sink),
-        Err(FileErr::At(line, slip)) => refuse(alloc, input, line, slip, sink),
+        Err(FileErr::At(line, slip)) => refuse(alloc, &Command::Check, input, line, slip, sink),
         Err(FileErr::NoMemory) => Status::NoMemory,
-    }
-}
-
-// Refuses an input that is no certificate.
-fn refuse<K: Sink>(alloc: Global, input: &[u8], line: u32, slip: Slip, sink: &mut K) -> Status
-    requires first { FirstCertSlip input.now line slip }
-    requires none { SpellsNoCertificate input.now }
-    ensures told { Tells Check input.now result (K.got sink.old) (K.got sink.new) (K.faults sink.old) (K.faults sink.new) }
-    ensures memory { result ≡ Status.NoMemory → sink.new ≡ sink.old }
-{
-    let _input = input;
-    match refusal(alloc, line, slip) {
-        Ok(text) => say(Status::Refused, sink, text.as_slice()),
-        Err(_) => Status::NoMemory,
     }
 }
 

@@ -1,9 +1,10 @@
 // The last step of a run: what is said, and that it was written.
 ghost use Rattle.std.specs.Prelude.{◌≡◌, IfOk};
-ghost use Rattle.srs_tool.specs.Output.{refusal_line};
-ghost use Rattle.srs_tool.specs.Ends.{Says};
+ghost use Rattle.srs_tool.specs.Output.{refusal_line, Owes};
+ghost use Rattle.srs_tool.specs.Ends.{Says, Tells};
 
 use crate::status::Status;
+use crate::words::Command;
 use srs_file::Slip;
 use srs_text::{Bytes, NoMemory, Sink, put_number, write_all};
 use std::alloc::Global;
@@ -18,8 +19,29 @@ pub fn say<K: Sink>(status: Status, sink: &mut K, text: &[u8]) -> Status
     }
 }
 
-/// The line that names the first slip of an input. An `Err` is want of memory.
-pub fn refusal(alloc: Global, line: u32, slip: Slip) -> Result<Bytes, NoMemory>
+/// Refuses an input, which was read to its end, by its first slip.
+pub fn refuse<K: Sink>(
+    alloc: Global,
+    command: &Command,
+    input: &[u8],
+    line: u32,
+    slip: Slip,
+    sink: &mut K,
+) -> Status
+    requires { Owes command.now input.now Status.Refused (refusal_line line slip) }
+    ensures told { Tells command.now input.now result (K.got sink.old) (K.got sink.new) (K.faults sink.old) (K.faults sink.new) }
+    ensures memory { result ≡ Status.NoMemory → sink.new ≡ sink.old }
+{
+    let _command = command;
+    let _input = input;
+    match refusal(alloc, line, slip) {
+        Ok(text) => say(Status::Refused, sink, text.as_slice()),
+        Err(_) => Status::NoMemory,
+    }
+}
+
+// The line that names the first slip of an input. An `Err` is want of memory.
+fn refusal(alloc: Global, line: u32, slip: Slip) -> Result<Bytes, NoMemory>
     ensures { IfOk result (λ text. text ≡ refusal_line line slip) }
 {
     let mut text = Bytes::new(alloc);
