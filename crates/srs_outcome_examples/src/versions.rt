@@ -1,5 +1,6 @@
 // Versions of a tree, and why they don't take a finding.
 use crate::parts::{Cut, DOWN, SPLIT, UP, cell_of, part};
+use srs_cell::Cell;
 use srs_path::{Finding, Outcome, Path, Side};
 use srs_refine::refine;
 use srs_tree::{TreeErr, Version};
@@ -9,9 +10,9 @@ use std::test::Fail;
 // Why a finding isn't entered.
 #[derive(Clone, Copy, Debug, PartialEq, Eq, Drop)]
 enum Refusal {
-    NotThere(u32),
+    NotThere(u32, Option<Side>),
     Done(Option<(i64, i64, i64)>),
-    OtherCell(u32),
+    OtherCell(u32, Option<(i64, i64, i64)>),
     NoMemory,
 }
 
@@ -54,12 +55,31 @@ fn cut(outcome: &Outcome) -> Option<(i64, i64, i64)> {
     }
 }
 
-// What the refusal says: the length of the cell that is named, the form that cuts it, or the number of its halves.
+// The first side of the path.
+fn first_side(path: &Path) -> Option<Side> {
+    if path.len() == 0 {
+        return None;
+    }
+    Some(path.side(0))
+}
+
+// The numbers of the last half of the cell.
+fn last_half(cell: &Cell) -> Option<(i64, i64, i64)> {
+    let region = cell.region();
+    let count = region.len();
+    if count == 0 {
+        return None;
+    }
+    Some(region.half(count - 1).form.parts())
+}
+
+// What the refusal says: the length and the first side of the cell that is named; the form that cuts it; or how many halves
+// it has, and the last of them.
 fn kind_of(refused: &TreeErr) -> Refusal {
     match refused {
-        TreeErr::NotThere(longest) => Refusal::NotThere(longest.len()),
+        TreeErr::NotThere(longest) => Refusal::NotThere(longest.len(), first_side(longest)),
         TreeErr::Done(outcome) => Refusal::Done(cut(outcome)),
-        TreeErr::OtherCell(cell) => Refusal::OtherCell(cell.region().len()),
+        TreeErr::OtherCell(cell) => Refusal::OtherCell(cell.region().len(), last_half(cell)),
         TreeErr::NoMemory(_) => Refusal::NoMemory,
     }
 }
@@ -126,11 +146,11 @@ fn refused_entries(rt: HostRuntime) -> Result<(), Fail> {
     let upper = child(&root, Side::Ge)?;
     assert_eq!(rt;
         why_not(alloc, &version, child(&upper, Side::Ge)?, &[])?,
-        Some(Refusal::NotThere(1))
+        Some(Refusal::NotThere(1, Some(Side::Ge)))
     );
     assert_eq!(rt;
         why_not(alloc, &version, upper, &[DOWN])?,
-        Some(Refusal::OtherCell(4))
+        Some(Refusal::OtherCell(4, Some((0, 1, 0))))
     );
     assert_eq!(rt; why_not(alloc, &version, upper, &[UP])?, None);
     Ok(())
