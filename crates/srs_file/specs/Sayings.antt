@@ -40,9 +40,9 @@ word_if met word = if met then 32 ∷ word else []
 -- the words that a polygon met
 abbrev pub met_text : Met → List ℕ
 met_text m = ended (
-  codes "region" ++ word_if m.inside (codes "in") ++ word_if m.outside (codes "out") ++ word_if m.undecided (codes "open")
+    codes "region" ++ word_if m.inside (codes "in") ++ word_if m.outside (codes "out") ++ word_if m.undecided (codes "open")
     ++ word_if m.beyond (codes "beyond")
-)
+    )
 
 -- how an orbit ended
 abbrev pub orbit_text : OrbitEnd → List ℕ
