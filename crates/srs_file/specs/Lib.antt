@@ -2,6 +2,7 @@ pub mod Texts
 pub mod Certificates
 pub mod Heights
 pub mod Grammar
+pub mod Sayings
 pub mod Ring
 pub mod PolygonReading
 pub mod Leaf

@@ -1,9 +1,11 @@
-//! Writes the texts of certificates.
+//! Writes the texts of certificates, and the lines of what is said.
 #![tactic(auto)]
 
 mod certificate;
 mod line;
 mod node;
+mod said;
 
 pub use certificate::put_cert;
 pub use line::put_words;
+pub use said::put_said;

@@ -60,7 +60,7 @@ fn put_outside(out: &mut Bytes, cycle: &Cycle) -> Result<(), NoMemory>
 }
 
 // The line of the cycle, with no LF.
-fn put_cycle(out: &mut Bytes, cycle: &Cycle) -> Result<(), NoMemory>
+pub(crate) fn put_cycle(out: &mut Bytes, cycle: &Cycle) -> Result<(), NoMemory>
     ensures ok { OnOk result (out.new ≡ out.old ++ line_of (codes "out") (pos (length cycle.now) ∷ cycle.now)) }
     ensures err { OnErr result (StopsIn out.old (line_of (codes "out") (pos (length cycle.now) ∷ cycle.now)) out.new) }
 {
@@ -96,7 +96,7 @@ fn put_left(out: &mut Bytes, cause: Cause) -> Result<(), NoMemory>
     out.extend(b"\n")
 }
 
-fn cause_bytes(cause: Cause) -> &'static [u8]
+pub(crate) fn cause_bytes(cause: Cause) -> &'static [u8]
     ensures { result.now ≡ cause_text cause }
 {
     match cause {
