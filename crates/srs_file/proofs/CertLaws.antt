@@ -47,7 +47,7 @@ begins_once s t u line (a, p, e) (b, q, f) = let same : a ≡ b = limits_once a 
 
 once : (phase : CertPhase) (s t u : CertReader) (line : List ℕ) → StepsFrom phase s line t → StepsFrom phase s line u → t ≡ u
 once First s t u line (p, e) (q, f) = e ∙ sym f
-once Head s t u line (r, p, e) (q, o, f) = rw (e, f, opens_once r q line p o) refl
+once Head s t u line (r, p, e) (q, o, f) = rw (e, f, opens_once (codes "polygon") r q line p o) refl
 once Vertices s t u line (inl (a, r, p, e)) (inl (b, q, o, f)) = rw (e, f, takes_once s.ring r q line p o) refl
 once Vertices s t u line (inl (a, r, p, e)) (inr (b, o)) = absurd (omega arith)
 once Vertices s t u line (inr (a, p)) (inl (b, q, o, f)) = absurd (omega arith)

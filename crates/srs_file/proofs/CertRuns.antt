@@ -89,7 +89,7 @@ text_is_cert text c s =
     let middle = all_runs vs (limits ∷ event_lines c.events) ends.last is.polygon tail in
     let one = count_fits 1 (omega arith) in
     let size = size_fits (length vs) is.polygon.counted.1 in
-    let opened : Opens head (ring_grows (length vs) []).ring = (length vs, (is.polygon.counted.0, is.polygon.counted.1, says_line (codes "polygon") (pos (length vs) ∷ []) polygon_plain size), refl) in
+    let opened : Opens (codes "polygon") head (ring_grows (length vs) []).ring = (length vs, (is.polygon.counted.0, is.polygon.counted.1, says_line (codes "polygon") (pos (length vs) ∷ []) polygon_plain size), refl) in
     let parts : joined lines ≡ ended srs ++ (ended head ++ (flat_map vertex_text vs ++ (ended limits ++ (events_text c.events ++ ended (codes "end"))))) =
     ap (λ x. ended srs ++ (ended head ++ x)) (joined_vertices vs (limits ∷ event_lines c.events) ∙ ap (λ x. flat_map vertex_text vs ++ (ended limits ++ x)) (joined_events c.events)) in
     let whole : cert_text c ≡ joined lines = regroup (ended srs) (ended head) (flat_map vertex_text vs) (ended limits) (events_text c.events) (ended (codes "end")) ∙ sym parts in (

@@ -11,7 +11,7 @@ use Rattle.srs_file.specs.PolygonReading.{StepsFrom, SlipsFrom, Steps, Slips, Is
 use Rattle.srs_file.proofs.RingLaws.{opens_once, takes_once, ring_apart, ring_slips_once}
 
 once : (phase : Phase) (s t u : PolygonReader) (line : List ℕ) → StepsFrom phase s line t → StepsFrom phase s line u → t ≡ u
-once Head s t u line (r, p, e) (q, o, f) = rw (e, f, opens_once r q line p o) refl
+once Head s t u line (r, p, e) (q, o, f) = rw (e, f, opens_once (codes "polygon") r q line p o) refl
 once Vertices s t u line (inl (a, r, p, e)) (inl (b, q, o, f)) = rw (e, f, takes_once s.ring r q line p o) refl
 once Vertices s t u line (inl (a, r, p, e)) (inr (b, o, f)) = absurd (omega arith)
 once Vertices s t u line (inr (a, p, e)) (inl (b, q, o, f)) = absurd (omega arith)

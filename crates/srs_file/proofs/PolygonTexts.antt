@@ -167,7 +167,7 @@ polygon_plain =
 pub size_fits : (n : ℕ) → n ≤ 16 → All (FitsSigned w64) (pos n ∷ [])
 size_fits n h = let f : FitsSigned w64 (pos n) = omega (arith, ints) in All-cons (FitsSigned w64) (pos n) [] f (All-nil (FitsSigned w64))
 
-opened : (vs : List Vertex) → IsPolygon vs → Opens (line_of (codes "polygon") (pos (length vs) ∷ [])) (growing (length vs) []).ring
+opened : (vs : List Vertex) → IsPolygon vs → Opens (codes "polygon") (line_of (codes "polygon") (pos (length vs) ∷ [])) (growing (length vs) []).ring
 opened vs p = (length vs, (p.counted.0, p.counted.1, says_line (codes "polygon") (pos (length vs) ∷ []) polygon_plain (size_fits (length vs) p.counted.1)), refl)
 
 runs_all : (vs : List Vertex) → IsPolygon vs → Runs Steps (growing (length vs) []) (lines_from vs) (full Done vs)

@@ -75,8 +75,8 @@ vertex_slip_once line d e (inr (inr (v, said, out, f))) (inr (inl (kind, w, g)))
     absurd (no_field_slip (kind_word v.kind) line (numbers_of v) e said (rw same at g))
 vertex_slip_once line d e (inr (inr (v, said, out, f))) (inr (inr (w, said', out', g))) = f ∙ sym g
 
-pub opens_once : (t u : RingView) (line : List ℕ) → Opens line t → Opens line u → t ≡ u
-opens_once t u line (m, p, e) (n, q, f) = let same : m ≡ n = count_once (codes "polygon") line 3 16 m n p q in rw (e, f, same) refl
+pub opens_once : (word : List ℕ) (t u : RingView) (line : List ℕ) → Opens word line t → Opens word line u → t ≡ u
+opens_once word t u line (m, p, e) (n, q, f) = let same : m ≡ n = count_once word line 3 16 m n p q in rw (e, f, same) refl
 
 adds_once : (s t u : RingView) (v : Vertex) → Adds s v t → Adds s v u → t ≡ u
 adds_once s t u v (inl (a, e)) (inl (b, f)) = e ∙ sym f

@@ -28,11 +28,11 @@ SlipsFirst line slip back =
 
 -- the second line opens the ring
 abbrev pub StepsHead : CertReader → List ℕ → CertReader → Type 0
-StepsHead old line new = (ring : RingView) × Opens line ring × (new ≡ record old { phase = Vertices; ring = ring })
+StepsHead old line new = (ring : RingView) × Opens (codes "polygon") line ring × (new ≡ record old { phase = Vertices; ring = ring })
 
 -- what is wrong with the second line
 abbrev pub SlipsHead : List ℕ → Slip → ℕ → Type 0
-SlipsHead line slip back = IsOpenSlip line slip × (back ≡ 0)
+SlipsHead line slip back = IsOpenSlip (codes "polygon") line slip × (back ≡ 0)
 
 -- the line says the limits, in their ranges
 abbrev pub SaysLimits : Budget → List ℕ → Type 0

@@ -15,11 +15,11 @@ use Rattle.srs_file.specs.Ring.{RingView, Opens, IsOpenSlip, TakesVertex, SlipsV
 
 -- the first line opens the ring
 abbrev pub StepsHead : PolygonReader → List ℕ → PolygonReader → Type 0
-StepsHead old line new = (ring : RingView) × Opens line ring × (new ≡ record { phase = Vertices; ring = ring })
+StepsHead old line new = (ring : RingView) × Opens (codes "polygon") line ring × (new ≡ record { phase = Vertices; ring = ring })
 
 -- what is wrong with the first line
 abbrev pub SlipsHead : List ℕ → Slip → ℕ → Type 0
-SlipsHead line slip back = IsOpenSlip line slip × (back ≡ 0)
+SlipsHead line slip back = IsOpenSlip (codes "polygon") line slip × (back ≡ 0)
 
 -- a vertex where one is to come, and else `end`
 abbrev pub StepsVertices : PolygonReader → List ℕ → PolygonReader → Type 0

@@ -1,5 +1,5 @@
 -- The lines of a ring of vertices: how many there are, and one line a vertex.
-use Rattle.std.specs.Prelude.{◌≡◌, ◌≢◌, ◌⊎◌, ℕ, ◌+◌, ◌-◌, ◌<◌, ◌≤◌, List, [], ◌∷◌, ◌++◌, length, Option, Some, None, codes}
+use Rattle.std.specs.Prelude.{◌≡◌, ◌≢◌, ◌⊎◌, ℕ, ◌+◌, ◌-◌, ◌<◌, ◌≤◌, List, [], ◌∷◌, ◌++◌, length, Option, Some, None}
 use Rattle.std.specs.List.{All}
 use Rattle.srs_plane.specs.declared.halves.Kind.{Kind}
 use Rattle.srs_plane.specs.declared.polygons.Vertex.{Vertex}
@@ -40,13 +40,13 @@ IsVertexSlip line slip =
 abbrev pub IsTurn : List Vertex → Slip → ℕ → Type 0
 IsTurn vs slip back = (i : ℕ) × IsPolygonErr vs (polygons.Turn i) × (slip ≡ Turn) × (back ≡ length vs - 1 - i)
 
--- the line says how many vertices come
-abbrev pub Opens : List ℕ → RingView → Type 0
-Opens line new = (n : ℕ) × SaysCount (codes "polygon") 3 16 n line × (new ≡ record { left = n; vertices = []; region = None })
+-- the line says by this word how many vertices come
+abbrev pub Opens : List ℕ → List ℕ → RingView → Type 0
+Opens word line new = (n : ℕ) × SaysCount word 3 16 n line × (new ≡ record { left = n; vertices = []; region = None })
 
--- what is wrong with a line that should say how many vertices come
-abbrev pub IsOpenSlip : List ℕ → Slip → Type 0
-IsOpenSlip line slip = IsCountSlip (codes "polygon") 3 16 Count line slip
+-- what is wrong with a line that should say by this word how many vertices come
+abbrev pub IsOpenSlip : List ℕ → List ℕ → Slip → Type 0
+IsOpenSlip word line slip = IsCountSlip word 3 16 Count line slip
 
 -- The vertex is put at the end. With the last one the vertices are a polygon, whose region is kept.
 abbrev pub Adds : RingView → Vertex → RingView → Type 0

@@ -65,7 +65,7 @@ impl CertReader {
         ensures ok { OnOk result (StepsHead self.old line.now self.new) }
         ensures err { IfErr result (IsSlip (SlipsHead line.now)) }
     {
-        match self.ring.open(line) {
+        match self.ring.open(b"polygon", line) {
             Ok(()) => {
                 self.phase = CertPhase::Vertices;
                 Ok(())

@@ -44,7 +44,7 @@ impl PolygonReader {
         ensures ok { OnOk result (StepsHead self.old line.now self.new) }
         ensures err { IfErr result (IsSlip (SlipsHead line.now)) }
     {
-        match self.ring.open(line) {
+        match self.ring.open(b"polygon", line) {
             Ok(()) => {
                 self.phase = Phase::Vertices;
                 Ok(())

@@ -52,13 +52,13 @@ impl Ring {
         self.left > 0
     }
 
-    /// Begins anew with the line that says how many vertices come. An `Err` changes nothing. It takes no memory.
-    pub fn open(&mut self, line: &[u8]) -> Result<(), Slip>
-        ensures ok { OnOk result (Opens line.now self.new) }
-        ensures err { IfErr result (IsOpenSlip line.now) }
+    /// Begins anew with the line that says by this word how many vertices come. An `Err` changes nothing. It takes no memory.
+    pub fn open(&mut self, word: &[u8], line: &[u8]) -> Result<(), Slip>
+        ensures ok { OnOk result (Opens word.now line.now self.new) }
+        ensures err { IfErr result (IsOpenSlip word.now line.now) }
         ensures kept { OnErr result (self.new ≡ self.old) }
     {
-        match count_of(line, b"polygon", 3, 16, Slip::Count) {
+        match count_of(line, word, 3, 16, Slip::Count) {
             Ok(n) => {
                 *self = Ring {
                     alloc: self.alloc,
