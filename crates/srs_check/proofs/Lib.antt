@@ -4,7 +4,6 @@ pub mod Entries
 pub mod Answering
 pub mod RowCounts
 pub mod Soundness
-pub mod Preordered
 pub mod Cuts
 pub mod NodeCounts
 pub mod WalkStates

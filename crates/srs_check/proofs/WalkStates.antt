@@ -30,7 +30,7 @@ use Rattle.srs_check.specs.declared.nodes.Tested.{Tested}
 use Rattle.srs_check.specs.declared.nodes.Tested.TheVariants.{Leaf, Divided, Wrong}
 use Rattle.srs_check.specs.Tested.{IsGoodLeaf, IsDivided, IsTested}
 use Rattle.srs_check.specs.Certified.{IsCertified}
-use Rattle.srs_check.proofs.Preordered.{IsWalked, Takes, walked_first, walked_takes, walked_outcome}
+use Rattle.srs_file.proofs.Preordered.{IsWalked, Takes, walked_first, walked_takes, walked_outcome}
 use Rattle.srs_check.proofs.Cuts.{partition}
 
 -- the node proves itself, and what it claims is sound

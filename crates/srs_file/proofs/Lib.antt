@@ -10,7 +10,9 @@ pub mod TreeRuns
 pub mod CertRuns
 pub mod LineCounts
 pub mod NodeLines
+pub mod Preordered
 pub mod LtParts
+pub mod Descents
 pub mod RingLaws
 pub mod PolygonLaws
 pub mod PolygonTexts

@@ -62,7 +62,7 @@ parts_start H tree = record {
 drop_here : (H : History) (i : ℕ) (e : Entry) → slice_get H i ≡ Some e → drop i H ≡ e ∷ drop (i + 1) H
 drop_here H i e at = drop_more H i e (slice_get_within H i e at) ∙ ap (λ x. x ∷ drop (i + 1) H) (get_or_from_slice_get H i e e at)
 
-head_at : (H : History) (i : ℕ) (e : Entry) (rest : History) → drop i H ≡ e ∷ rest → slice_get H i ≡ Some e
+pub head_at : (H : History) (i : ℕ) (e : Entry) (rest : History) → drop i H ≡ e ∷ rest → slice_get H i ≡ Some e
 head_at [] zero e rest d = cc
 head_at [] (suc i) e rest d = cc
 head_at (x ∷ H) zero e rest d = cc

@@ -1,14 +1,16 @@
 // Certificates.
-ghost use Rattle.std.specs.Prelude.{◌≡◌, ◌<◌, ◌≤◌, length, IsTrue, ◌↔◌, IfOk, OnOk, All};
+ghost use Rattle.std.specs.Prelude.{◌≡◌, ◌<◌, ◌≤◌, [], ◌∷◌, ◌++◌, length, slice_get, IsTrue, ◌↔◌, IfOk, OnOk, All, None, Some, IfNone, IfSome, MatchOption};
 ghost use Rattle.srs_num.specs.Points.{LinearForm};
 ghost use Rattle.srs_plane.specs.Polygons.{IsPolygon, IsCounted};
 ghost use Rattle.srs_path.specs.declared.outcomes.Outcome.TheVariants.{Cut};
+ghost use Rattle.srs_path.specs.Views.{Entry};
+ghost use Rattle.srs_tree.specs.Tree.{outcome_at};
 ghost use Rattle.srs_tree.specs.WholeTrees.{ListsWholeTree, IsWithin};
 ghost use Rattle.srs_file.specs.Heights.{height};
-ghost use Rattle.srs_file.specs.Certificates.{line_of_node, IsInRange, IsCertificate, ListsLines, ListsLtParts};
+ghost use Rattle.srs_file.specs.Certificates.{line_of_node, IsInRange, IsCertificate, ListsLines, StandsAt, ListsLtParts};
 
 use srs_num::NoMemory;
-use srs_path::{Limits, Outcome};
+use srs_path::{Limits, Outcome, Path, Side};
 use srs_plane::{Vertex, Vertices};
 use srs_tree::Journal;
 use std::alloc::Global;
@@ -89,6 +91,36 @@ impl Cert {
         ensures { result ≡ line_of_node self.now i }
     {
         self.lines[i as usize]
+    }
+
+    /// The outcome of the node at the path. `None` exactly where no node has that path. It goes down from the root by the
+    /// places of the parts, and takes no memory.
+    pub fn outcome(&self, path: Path) -> Option<&Outcome>
+        ensures { MatchOption result (outcome_at self.now.events path ≡ None) (λ o. outcome_at self.now.events path ≡ Some o.now) }
+    {
+        let events = self.events();
+        let mut place = 0;
+        for k in 0..path.len() {
+            place = self.part(place, path.side(k))?;
+        }
+        Some(events.get(place as u64).outcome.as_ref())
+    }
+
+    // The place of the part on this side of the cut at the place `i`. `None` exactly where there is no cut.
+    fn part(&self, i: u32, s: Side) -> Option<u32>
+        requires { i < length self.now.events }
+        ensures none { IfNone result ((e : Entry) (h : LinearForm) → slice_get self.now.events i ≡ Some e → e.outcome ≡ Cut h → ⊥) }
+        ensures part { IfSome result (λ j. (e : Entry) → slice_get self.now.events i ≡ Some e → StandsAt self.now.events (e.path ++ s ∷ []) j) }
+    {
+        // There are at most as many events as the limits allow.
+        let _ = self.limits.cells();
+        if !is_cut(&self.events.get(i as u64).outcome) {
+            return None;
+        }
+        match s {
+            Side::Ge => Some(i + 1),
+            Side::Lt => Some(self.lt_parts[i as usize]),
+        }
     }
 }
 

@@ -37,7 +37,7 @@ in_one : (a p : List Side) → Contains (a ∷ []) p → a ≡ p
 in_one a p (zero, l, e) = e
 in_one a p (suc k, l, e) = absurd (omega arith)
 
-none_or : (x : Option Outcome) → ((o : Outcome) → x ≡ Some o → ⊥) → x ≡ None
+pub none_or : (x : Option Outcome) → ((o : Outcome) → x ≡ Some o → ⊥) → x ≡ None
 none_or None f = refl
 none_or (Some o) f = absurd (f o refl)
 
