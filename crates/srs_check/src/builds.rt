@@ -70,12 +70,7 @@ fn version_of(alloc: Global, c: &Cert) -> Result<Version, NoMemory>
 }
 
 // The event comes to the cell at its path, which is open.
-fn enter(
-    alloc: Global,
-    version: &mut Version,
-    event: &Event,
-    cell: &Cell,
-) -> Result<(), NoMemory>
+fn enter(alloc: Global, version: &mut Version, event: &Event, cell: &Cell) -> Result<(), NoMemory>
     requires is_open { IsOpenIn (tree_of version.old) event.now.path }
     requires same { cell.now ≡ region_at version.old.region (tree_of version.old) event.now.path }
     requires short { IsShortCut event.now.path event.now.outcome }
