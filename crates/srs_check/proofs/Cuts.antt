@@ -23,24 +23,24 @@ use Rattle.srs_tree.proofs.PartitionAll.{IsPartition-legal}
 use Rattle.srs_file.proofs.Preordered.{AreOpenAfter, walked_all, walked_takes}
 
 -- an outcome with nothing but its cut
-abbrev cut_of : Outcome → Outcome
+abbrev pub cut_of : Outcome → Outcome
 cut_of (Inside ranks) = Left Memory
 cut_of (Outside cycle) = Left Memory
 cut_of (Cut h) = Cut h
 cut_of (Left cause) = Left Memory
 
-abbrev cut_event : Entry → Entry
+abbrev pub cut_event : Entry → Entry
 cut_event e = record { path = e.path; outcome = cut_of e.outcome }
 
 -- the history with nothing but its cuts
-abbrev cuts_of : History → History
+abbrev pub cuts_of : History → History
 cuts_of H = map cut_event H
 
-abbrev cut_in : Option Outcome → Option Outcome
+abbrev pub cut_in : Option Outcome → Option Outcome
 cut_in None = None
 cut_in (Some o) = Some (cut_of o)
 
-outcome_at-cuts : (H : History) (p : List Side) → outcome_at (cuts_of H) p ≡ cut_in (outcome_at H p)
+pub outcome_at-cuts : (H : History) (p : List Side) → outcome_at (cuts_of H) p ≡ cut_in (outcome_at H p)
 outcome_at-cuts [] p = refl
 outcome_at-cuts (e ∷ H) p =
     let rest = outcome_at-cuts H p in
@@ -65,11 +65,11 @@ cut_was (Some (Left cause)) h e = let r : Left Memory ≡ Cut h = same_Some (Lef
 
 -- a tree and the one with the same cuts have the same cells, leaves and regions
 module _ (S T : Tree) (same : (p : List Side) → S p ≡ cut_in (T p)) where
-  cell_forth : (p : List Side) → IsCellOf T p → IsCellOf S p
+  pub cell_forth : (p : List Side) → IsCellOf T p → IsCellOf S p
   cell_forth p (inl e) = inl e
   cell_forth p (inr c) = inr (record { parent = c.parent; side = c.side; form = c.form; is = c.is; cut = same c.parent ∙ cut_kept (T c.parent) c.form c.cut })
 
-  cell_back : (p : List Side) → IsCellOf S p → IsCellOf T p
+  pub cell_back : (p : List Side) → IsCellOf S p → IsCellOf T p
   cell_back p (inl e) = inl e
   cell_back p (inr c) = inr (record { parent = c.parent; side = c.side; form = c.form; is = c.is; cut = cut_was (T c.parent) c.form (sym (same c.parent) ∙ c.cut) })
 
@@ -83,7 +83,7 @@ module _ (S T : Tree) (same : (p : List Side) → S p ≡ cut_in (T p)) where
   halves_same above [] = refl
   halves_same above (s ∷ rest) = ap₂ (λ (x y : List Half). x ++ y) (ap (λ (o : Option Outcome). cut_half o s) (same above) ∙ same_half (T above) s) (halves_same (above ++ s ∷ []) rest)
 
-  region_same : (Root : Area) (p : List Side) → region_at Root S p ≡ region_at Root T p
+  pub region_same : (Root : Area) (p : List Side) → region_at Root S p ≡ region_at Root T p
   region_same Root p = ap (λ (x : List Half). Root ++ x) (halves_same [] p)
 
   holds_forth : (Root : Area) (r : Point) (p : List Side) → HoldsAt Root T r p → HoldsAt Root S r p
@@ -108,7 +108,7 @@ module _ (Root : Area) (H : History) (tree : ListsWholeTree H) (divides : (i : �
   sound_cut R (Left cause) d = tt
 
   module _ (i : ℕ) (legal : IsLegal Root 0 (cuts_of (take i H))) where
-    region_then : (p : List Side) → IsCellOf (outcome_at (cuts_of (take i H))) p → region_at Root (outcome_at (cuts_of (take i H))) p ≡ region_at Root (outcome_at H) p
+    pub region_then : (p : List Side) → IsCellOf (outcome_at (cuts_of (take i H))) p → region_at Root (outcome_at (cuts_of (take i H))) p ≡ region_at Root (outcome_at H) p
     region_then p cell =
         sym (region_at_stays Root 0 (cuts_of (take i H)) legal (cuts_of (drop i H)) p cell)
         ∙ ap (λ (K : History). region_at Root (outcome_at K) p) (sym (map-append cut_event (take i H) (drop i H)) ∙ ap cuts_of (take-append-drop i H))
@@ -124,7 +124,7 @@ module _ (Root : Area) (H : History) (tree : ListsWholeTree H) (divides : (i : �
           sound = subst (λ (R : Area). IsSound R 0 (cut_of e.outcome)) (sym (region_then e.path cell)) (sound_cut (region_at Root (outcome_at H) e.path) e.outcome (λ h q. divides i e h at q));
         }
 
-  legal_upto : (i : ℕ) → i ≤ length H → IsLegal Root 0 (cuts_of (take i H))
+  pub legal_upto : (i : ℕ) → i ≤ length H → IsLegal Root 0 (cuts_of (take i H))
   legal_upto zero l = IsLegal-empty Root 0
   legal_upto (suc i) l =
       let d : Entry = record { path = []; outcome = Left Memory } in

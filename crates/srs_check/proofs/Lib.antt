@@ -7,6 +7,7 @@ pub mod Soundness
 pub mod Cuts
 pub mod NodeCounts
 pub mod WalkStates
+pub mod Building
 pub mod Excluded
 pub mod WholeCounts
 pub mod WholeProved

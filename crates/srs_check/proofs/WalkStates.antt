@@ -148,7 +148,7 @@ few_along : (T : Tree) (above rest : List Side) → length (halves_along T above
 few_along T above [] = omega arith
 few_along T above (s ∷ rest) = omega (arith, length-append (cut_half (T above) s) (halves_along T (above ++ s ∷ []) rest), few_half (T above) s, few_along T (above ++ s ∷ []) rest)
 
-few_root : (vs : List Vertex) → IsPolygon vs → length (region_of vs) ≤ 16
+pub few_root : (vs : List Vertex) → IsPolygon vs → length (region_of vs) ≤ 16
 few_root vs p = omega (arith, length-map-range_with_len (λ (i : ℕ). let h : Half = record { form = edge_at vs i; kind = (vertex_at vs i).kind } in h) 0 (length vs), p.counted.1)
 
 pub few_halves : (c : CertView) → IsCertificate c → (path : List Side) → length (cell_at c path) ≤ 16 + length path

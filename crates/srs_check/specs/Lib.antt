@@ -6,3 +6,4 @@ pub mod Faults
 pub mod Tested
 pub mod Certified
 pub mod Whole
+pub mod Builds

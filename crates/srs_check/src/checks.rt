@@ -34,7 +34,7 @@ pub fn check(alloc: Global, c: &Cert) -> Result<Checked, NoMemory>
 }
 
 // The cell of the polygon.
-fn root_of(alloc: Global, c: &Cert) -> Result<Cell, NoMemory>
+pub(crate) fn root_of(alloc: Global, c: &Cert) -> Result<Cell, NoMemory>
     ensures { IfOk result (λ cell. cell ≡ region_of c.now.vertices) }
 {
     // The vertices are those of a polygon.

@@ -2,6 +2,7 @@
 //! their cuts and their bounds, and on nothing that finds witnesses, cycles or outcomes.
 #![tactic(auto)]
 
+mod builds;
 mod checks;
 mod faults;
 mod laws;
@@ -11,6 +12,7 @@ mod places;
 mod rows;
 mod waiting;
 
+pub use builds::{Built, build};
 pub use checks::check;
 pub use faults::{Checked, Counts, Fault};
 pub use laws::whole_certificates;

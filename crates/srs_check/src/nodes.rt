@@ -70,7 +70,7 @@ fn check_outside(cell: &Cell, cycle: &Cycle) -> Result<(), Fault>
 }
 
 // The two parts of the cell.
-fn check_cut(alloc: Global, cell: &Cell, h: &Form) -> Result<Tested, NoMemory>
+pub(crate) fn check_cut(alloc: Global, cell: &Cell, h: &Form) -> Result<Tested, NoMemory>
     requires { length cell.now < 80 }
     ensures { IfOk result (IsDivision cell.now h.now) }
 {

@@ -27,7 +27,7 @@ pub record AreOpenAfter (G : History) (waiting : List (List Side)) : Type 0 wher
   pub fresh : (p : List Side) → Contains waiting p → outcome_at G p ≡ None
   pub once : AllPairs ◌≢◌ waiting
 
-here_first : (p : List Side) (ps : List (List Side)) → Contains (p ∷ ps) p
+pub here_first : (p : List Side) (ps : List (List Side)) → Contains (p ∷ ps) p
 here_first p ps = (0, omega arith, refl)
 
 here_later : (p q : List Side) (ps : List (List Side)) → Contains ps q → Contains (p ∷ ps) q
@@ -136,7 +136,7 @@ pub record Takes (H : History) (i : ℕ) (waiting : List (List Side)) (e : Entry
 drop_here : (H : History) (i : ℕ) (e : Entry) → slice_get H i ≡ Some e → drop i H ≡ e ∷ drop (i + 1) H
 drop_here H i e at = drop_more H i e (slice_get_within H i e at) ∙ ap (λ (x : Entry). x ∷ drop (i + 1) H) (get_or_from_slice_get H i e e at)
 
-take_here : (H : History) (i : ℕ) (e : Entry) → slice_get H i ≡ Some e → take (i + 1) H ≡ take i H ++ e ∷ []
+pub take_here : (H : History) (i : ℕ) (e : Entry) → slice_get H i ≡ Some e → take (i + 1) H ≡ take i H ++ e ∷ []
 take_here H i e at = take_more H i e (slice_get_within H i e at) ∙ ap (λ (x : Entry). take i H ++ x ∷ []) (get_or_from_slice_get H i e e at)
 
 pub walked_takes : (H : History) (i : ℕ) (waiting : List (List Side)) (e : Entry) → IsWalked H i waiting → slice_get H i ≡ Some e → Takes H i waiting e
