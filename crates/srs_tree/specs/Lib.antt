@@ -9,3 +9,4 @@ pub mod Preorder
 pub mod WholeTrees
 pub mod Answers
 pub mod Clips
+pub mod Questions
