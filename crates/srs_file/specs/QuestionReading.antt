@@ -10,7 +10,8 @@ use Rattle.srs_line.specs.declared.slip.Slip.TheVariants.{Word, Range}
 use Rattle.srs_line.specs.Fields.{Says, HasWord, IsFieldSlip}
 use Rattle.srs_file.specs.declared.questions.Questions.{Questions}
 use Rattle.srs_file.specs.Ring.{RingView, no_ring, Opens, IsOpenSlip, TakesVertex, SlipsVertex}
-use Rattle.srs_file.specs.Questions.{IsOrbitAsked}
+use Rattle.srs_file.specs.Sayings.{place_numbers}
+use Rattle.srs_file.specs.Questions.{orbit_numbers, IsOrbitAsked}
 
 -- no question yet
 abbrev pub no_questions : Questions
@@ -22,16 +23,12 @@ Asks old query new = new ≡ record old { queries = old.queries ++ query ∷ [] 
 
 -- the line says the point, in its range
 abbrev pub SaysPlace : Place → List ℕ → Type 0
-SaysPlace r line = Says (codes "point") (r.p ∷ r.q ∷ r.d ∷ []) line × IsPtSized r
+SaysPlace r line = Says (codes "point") (place_numbers r) line × IsPtSized r
 
 -- what is wrong with a line that should say a point
 abbrev pub IsPlaceSlip : List ℕ → Slip → Type 0
 IsPlaceSlip line slip =
-    IsFieldSlip (codes "point") 3 line slip ⊎ ((r : Place) × Says (codes "point") (r.p ∷ r.q ∷ r.d ∷ []) line × (¬ (IsPtSized r)) × (slip ≡ Range))
-
--- the numbers of an orbit's line: the parameter, the pair, and how many steps
-abbrev pub orbit_numbers : Place → V2 → ℤ → List ℤ
-orbit_numbers r z n = r.p ∷ r.q ∷ r.d ∷ z.a ∷ z.b ∷ n ∷ []
+    IsFieldSlip (codes "point") 3 line slip ⊎ ((r : Place) × Says (codes "point") (place_numbers r) line × (¬ (IsPtSized r)) × (slip ≡ Range))
 
 -- the line says the parameter, the pair and the number of steps, in their ranges
 abbrev pub SaysOrbit : Place → V2 → ℕ → List ℕ → Type 0

@@ -1,5 +1,5 @@
 -- The questions that a text asks of a certificate, and their lines.
-use Rattle.std.specs.Prelude.{◌≡◌, ⊤, ℕ, ◌≤◌, pos, List, [], ◌∷◌, codes}
+use Rattle.std.specs.Prelude.{◌≡◌, ⊤, ℕ, ◌≤◌, ℤ, pos, List, [], ◌∷◌, codes}
 use Rattle.srs_num.specs.declared.pairs.V2.{V2}
 use Rattle.srs_num.specs.Points.{Point as Place, IsPtSized, IsNear}
 use Rattle.srs_map.specs.Step.{IsNarrow}
@@ -15,9 +15,13 @@ use Rattle.srs_file.specs.Sayings.{place_text}
 abbrev pub region_text : List Vertex → List ℕ
 region_text vs = vertices_text (codes "region") vs
 
+-- the six numbers of an orbit: its parameter, the pair that it starts from, and how many steps
+abbrev pub orbit_numbers : Place → V2 → ℤ → List ℤ
+orbit_numbers r z n = r.p ∷ r.q ∷ r.d ∷ z.a ∷ z.b ∷ n ∷ []
+
 -- the line that asks how the first n steps of a pair's orbit end
 abbrev pub orbit_line : Place → V2 → ℕ → List ℕ
-orbit_line r z n = line_of (codes "orbit") (r.p ∷ r.q ∷ r.d ∷ z.a ∷ z.b ∷ pos n ∷ [])
+orbit_line r z n = line_of (codes "orbit") (orbit_numbers r z (pos n))
 
 -- of what orbits it may be asked: d is 1 to 2^40, both coordinates are within 4 and both entries within 2^37, and there
 -- are at most 100000 steps

@@ -6,8 +6,8 @@ ghost use Rattle.srs_plane.specs.Polygons.{region_of};
 ghost use Rattle.srs_tree.specs.declared.queries.Query.TheVariants.{Polygon};
 ghost use Rattle.srs_line.specs.Refusal.{IsSlip};
 ghost use Rattle.srs_file.specs.Ring.{IsFull, no_ring, IsOpenSlip, SlipsVertex};
-ghost use Rattle.srs_file.specs.Questions.{IsOrbitAsked};
-ghost use Rattle.srs_file.specs.QuestionReading.{no_questions, Asks, SaysPlace, IsPlaceSlip, orbit_numbers, SaysOrbit, IsOrbitSlip, StepsPoint, StepsRegion, StepsOrbit, StepsVertex, TakesQuestion, SlipsQuestion};
+ghost use Rattle.srs_file.specs.Questions.{orbit_numbers, IsOrbitAsked};
+ghost use Rattle.srs_file.specs.QuestionReading.{no_questions, Asks, SaysPlace, IsPlaceSlip, SaysOrbit, IsOrbitSlip, StepsPoint, StepsRegion, StepsOrbit, StepsVertex, TakesQuestion, SlipsQuestion};
 
 use crate::Ring;
 use crate::polygon_reader::inhabited;
