@@ -1,5 +1,5 @@
 -- The reader of a certificate and its questions meets what the laws of line grammars ask.
-use Rattle.std.proofs.Common.{◌≡◌, ℕ, List, codes, refl, sym, ◌∙◌, inl, inr}
+use Rattle.std.proofs.Common.{◌≡◌, ℕ, List, refl, sym, ◌∙◌, inl, inr}
 use Rattle.srs_line.specs.declared.slip.Slip.{Slip}
 use Rattle.srs_line.specs.Machine.{IsExact}
 use Rattle.srs_file.specs.declared.ask_reader.AskReader.{AskReader}

@@ -12,7 +12,7 @@ use Rattle.srs_file.specs.declared.questions.Questions.{Questions}
 use Rattle.srs_file.specs.declared.ask_reader.AskReader.{AskReader}
 use Rattle.srs_file.specs.Texts.{ended}
 use Rattle.srs_file.specs.Certificates.{CertView}
-use Rattle.srs_file.specs.Grammar.{SpellsCertificate, SpellsAsk}
+use Rattle.srs_file.specs.Grammar.{SpellsAsk}
 use Rattle.srs_file.specs.CertReading.{cert_start, CertSteps, CertEnds, read_view}
 use Rattle.srs_file.specs.QuestionReading.{no_questions, TakesQuestion}
 use Rattle.srs_file.specs.AskReading.{ask_start, AskSteps, AskSlips, AskEnds, ReadsAsAsk, IsAskRefusal, IsNoAsk}

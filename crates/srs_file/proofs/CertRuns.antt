@@ -1,9 +1,7 @@
 -- The text of a certificate is read as the certificate.
-use Rattle.std.proofs.Common.{◌≡◌, ◌-◌, ◌++◌, All, ℕ, pos, List, [], ◌∷◌, length, Some, None, codes, flat_map, refl, sym, ap, ◌∙◌, inl, inr, arith, append_assoc, append-nil}
-use Rattle.std.proofs.lemmas.List.Elements.{All-head, All-tail}
+use Rattle.std.proofs.Common.{◌≡◌, ◌++◌, ℕ, pos, List, [], ◌∷◌, length, codes, flat_map, refl, sym, ap, ◌∙◌, inl, inr, arith, append_assoc, append-nil}
 use Rattle.srs_plane.specs.declared.polygons.Vertex.{Vertex}
-use Rattle.srs_plane.specs.Polygons.{IsPolygon, region_of}
-use Rattle.srs_plane.specs.Placed.{IsPlaced}
+use Rattle.srs_plane.specs.Polygons.{IsPolygon}
 use Rattle.srs_line.specs.declared.slip.FileErr.{FileErr}
 use Rattle.srs_line.specs.declared.slip.FileErr.TheVariants.{At, NoMemory}
 use Rattle.srs_line.specs.Machine.{joined, Runs}
@@ -16,7 +14,7 @@ use Rattle.srs_file.specs.declared.cert_reader.CertReader.{CertReader}
 use Rattle.srs_file.specs.Texts.{ended, vertex_text}
 use Rattle.srs_file.specs.Certificates.{CertView, cert_text}
 use Rattle.srs_file.specs.Grammar.{SpellsCertificate}
-use Rattle.srs_file.specs.Ring.{RingView, Opens}
+use Rattle.srs_file.specs.Ring.{RingView}
 use Rattle.srs_file.specs.TreeReading.{no_tree, no_leaf}
 use Rattle.srs_file.specs.CertReading.{CertSteps, CertSlips, CertEnds, cert_start, ReadsAsCert, IsCertRefusal, IsNoCert}
 use Rattle.srs_file.proofs.RingTexts.{vertex_lines, joined_vertices, growing, full, opened, opened_no_lf, RingSteps, ring_runs}

@@ -1,5 +1,5 @@
 -- What a line of questions does is determined, and so is what is wrong with it.
-use Rattle.std.proofs.Common.{◌≡◌, ◌≢◌, ◌<◌, ℕ, ℤ, pos, List, [], ◌∷◌, codes, refl, sym, ◌∙◌, inl, inr, arith}
+use Rattle.std.proofs.Common.{◌≡◌, ◌≢◌, ℕ, ℤ, pos, List, [], ◌∷◌, codes, refl, sym, ◌∙◌, inl, inr, arith}
 use Rattle.srs_num.specs.declared.pairs.V2.{V2}
 use Rattle.srs_num.specs.Points.{Point as Place}
 use Rattle.srs_line.specs.declared.slip.Slip.{Slip}
@@ -7,9 +7,8 @@ use Rattle.srs_line.specs.declared.slip.Slip.TheVariants.{Count}
 use Rattle.srs_line.specs.Fields.{Says, HasWord}
 use Rattle.srs_line.proofs.FieldLaws.{word_once, says_once, no_field_slip, field_slip_once, no_count_slip, count_slip_once}
 use Rattle.srs_file.specs.declared.questions.Questions.{Questions}
-use Rattle.srs_file.specs.Ring.{RingView}
 use Rattle.srs_file.specs.Sayings.{place_numbers}
-use Rattle.srs_file.specs.QuestionReading.{SaysPlace, IsPlaceSlip, SaysOrbit, IsOrbitSlip, StepsQuestion, BeginsNoQuestion, SlipsAsked, StepsVertex, TakesQuestion, SlipsQuestion}
+use Rattle.srs_file.specs.QuestionReading.{SaysPlace, IsPlaceSlip, SaysOrbit, IsOrbitSlip, StepsQuestion, SlipsAsked, StepsVertex, TakesQuestion, SlipsQuestion}
 use Rattle.srs_file.specs.Questions.{orbit_numbers}
 use Rattle.srs_file.proofs.LeafLaws.{same_pair}
 use Rattle.srs_file.proofs.RingLaws.{opens_once, takes_once, ring_apart, ring_slips_once}

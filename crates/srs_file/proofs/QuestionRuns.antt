@@ -1,9 +1,9 @@
 -- The text of questions is read as the questions.
-use Rattle.std.proofs.Common.{◌≡◌, ◌<◌, ◌≤◌, ◌^◌, ◌++◌, All, FitsSigned, ℕ, ℤ, pos, List, [], ◌∷◌, length, codes, flat_map, refl, sym, ap, ◌∙◌, inl, inr, arith, append_assoc, append-nil, lit<}
+use Rattle.std.proofs.Common.{◌≡◌, ◌<◌, ◌^◌, ◌++◌, All, FitsSigned, ℕ, pos, List, [], ◌∷◌, length, codes, refl, sym, ap, ◌∙◌, inl, inr, arith, append_assoc, append-nil, lit<}
 use Rattle.std.specs.Int.{w64}
 use Rattle.std.proofs.lemmas.Int.{ints}
 use Rattle.std.proofs.lemmas.List.Concat.{flat_map-append}
-use Rattle.std.proofs.lemmas.List.Elements.{All-cons, All-nil}
+use Rattle.std.proofs.lemmas.List.Elements.{All-cons}
 use Rattle.srs_num.specs.declared.pairs.V2.{V2}
 use Rattle.srs_num.specs.Points.{Point as Place, IsPtSized}
 use Rattle.srs_num.proofs.Ranges.{small_fits}
@@ -11,7 +11,6 @@ use Rattle.srs_plane.specs.declared.polygons.Vertex.{Vertex}
 use Rattle.srs_plane.specs.Polygons.{IsPolygon, region_of}
 use Rattle.srs_tree.specs.declared.queries.Query.{Query}
 use Rattle.srs_tree.specs.declared.queries.Query.TheVariants.{Fresh, Count, Point, Polygon, Orbit}
-use Rattle.srs_text.specs.Line.{HasNoLf}
 use Rattle.srs_line.specs.Machine.{joined, Runs}
 use Rattle.srs_line.specs.Fields.{line_of}
 use Rattle.srs_line.proofs.MachineLemmas.{runs_append}
@@ -23,7 +22,7 @@ use Rattle.srs_file.specs.Sayings.{place_numbers}
 use Rattle.srs_file.specs.Questions.{orbit_numbers, IsOrbitAsked, IsQuestion, AreQuestions, region_text}
 use Rattle.srs_file.specs.Ring.{RingView, no_ring}
 use Rattle.srs_file.specs.QuestionReading.{TakesQuestion}
-use Rattle.srs_file.proofs.LineShapes.{point_plain, region_plain, orbit_plain, three_fit, number_fits}
+use Rattle.srs_file.proofs.LineShapes.{point_plain, region_plain, orbit_plain, three_fit}
 use Rattle.srs_file.proofs.QuestionTexts.{flat}
 use Rattle.srs_file.proofs.RingTexts.{vertex_lines, joined_vertices, growing, full, says_size, opened, opened_no_lf, RingSteps, ring_runs}
 

@@ -1,4 +1,4 @@
-use Rattle.std.proofs.Common.{◌≡◌, ◌≢◌, ℕ, ℤ, pos, [], ◌∷◌, inr, refl, ap}
+use Rattle.std.proofs.Common.{◌≢◌, ℕ, ℤ, pos, inr, refl, ap}
 use Rattle.srs_num.specs.declared.pairs.V2.{V2}
 use Rattle.srs_num.specs.Points.{Point}
 use Rattle.srs_file.specs.Questions.{orbit_numbers, IsOrbitAsked}

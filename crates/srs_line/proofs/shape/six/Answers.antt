@@ -1,4 +1,4 @@
-use Rattle.std.proofs.Common.{rules, ◌≡◌, ℤ, pos, [], ◌∷◌, List, length, get_or, FitsSigned, w64, to_z-of_z}
+use Rattle.std.proofs.Common.{rules, ◌≡◌, pos, length, get_or, FitsSigned, w64, to_z-of_z}
 use Rattle.srs_line.specs.Fields.{Says}
 use Rattle.srs_line.proofs.LineTexts.{six_is}
 use Rattle.srs_line.proofs.shape.six.Goals as goal
