@@ -2,7 +2,6 @@
 use Rattle.std.proofs.Common.{◌≡◌, ℕ, ◌+◌, ◌<◌, ◌≤◌, List, [], ◌∷◌, ◌++◌, map, length, length-append, get_or, slice_get, refl, sym, ap, ap₂, subst, ◌∙◌, arith, append-nil}
 use Rattle.std.proofs.Math.Decide.{dec_lt}
 use Rattle.std.proofs.lemmas.Option.{same_Some, slice_get_within, slice_get-get_or}
-use Rattle.std.proofs.lemmas.List.FromFn.{length-map-range_with_len}
 use Rattle.std.specs.declared.option.Option.{Option}
 use Rattle.std.specs.declared.option.Option.TheVariants.{Some, None}
 use Rattle.srs_num.specs.Points.{LinearForm}
@@ -11,6 +10,7 @@ use Rattle.srs_plane.specs.declared.polygons.Vertex.{Vertex}
 use Rattle.srs_plane.specs.Polygons.{edge_at, vertex_at, region_of, IsPolygon}
 use Rattle.srs_plane.specs.Regions.{Area, Divides}
 use Rattle.srs_plane.proofs.Inside.{polygon_has_point}
+use Rattle.srs_plane.proofs.Ring_of_vertices.{few_halves}
 use Rattle.srs_path.specs.declared.paths.Side.{Side}
 use Rattle.srs_path.specs.declared.paths.Side.TheVariants.{Ge, Lt}
 use Rattle.srs_cell.specs.declared.cells.Cell.{Cell}
@@ -148,12 +148,9 @@ few_along : (T : Tree) (above rest : List Side) → length (halves_along T above
 few_along T above [] = omega arith
 few_along T above (s ∷ rest) = omega (arith, length-append (cut_half (T above) s) (halves_along T (above ++ s ∷ []) rest), few_half (T above) s, few_along T (above ++ s ∷ []) rest)
 
-pub few_root : (vs : List Vertex) → IsPolygon vs → length (region_of vs) ≤ 16
-few_root vs p = omega (arith, length-map-range_with_len (λ (i : ℕ). let h : Half = record { form = edge_at vs i; kind = (vertex_at vs i).kind } in h) 0 (length vs), p.counted.1)
-
-pub few_halves : (c : CertView) → IsCertificate c → (path : List Side) → length (cell_at c path) ≤ 16 + length path
-few_halves c is path =
-    omega (arith, length-append (region_of c.vertices) (halves_along (outcome_at c.events) [] path), few_along (outcome_at c.events) [] path, few_root c.vertices is.polygon)
+pub few_at : (c : CertView) → IsCertificate c → (path : List Side) → length (cell_at c path) ≤ 16 + length path
+few_at c is path =
+    omega (arith, length-append (region_of c.vertices) (halves_along (outcome_at c.events) [] path), few_along (outcome_at c.events) [] path, few_halves c.vertices (region_of c.vertices) is.polygon.counted refl)
 
 module _ (c : CertView) (i : ℕ) (cells : List Area) (s : WalkState c i cells) (l : length c.events ≤ i) where
   all_good : (k : ℕ) (e : Entry) → slice_get c.events k ≡ Some e → IsGood c e
@@ -169,7 +166,7 @@ module _ (c : CertView) (i : ℕ) (cells : List Area) (s : WalkState c i cells) 
   }
 
 pub few_here : (c : CertView) (i : ℕ) (R : Area) (rest : List Area) → IsCertificate c → WalkState c i (R ∷ rest) → (e : Entry) → slice_get c.events i ≡ Some e → length R ≤ 16 + length e.path
-few_here c i R rest is s e at = omega (arith, ap length (cell_is c i R rest s e at), few_halves c is e.path)
+few_here c i R rest is s e at = omega (arith, ap length (cell_is c i R rest s e at), few_at c is e.path)
 
 -- what the test of the node at a place tells
 abbrev pub IsTestedAt : CertView → ℕ → Area → Tested → Type 0

@@ -19,7 +19,8 @@ use Rattle.srs_line.proofs.FieldLaws.{says_word}
 use Rattle.srs_file.specs.declared.questions.Questions.{Questions}
 use Rattle.srs_file.specs.Texts.{ended}
 use Rattle.srs_file.specs.Sayings.{place_numbers}
-use Rattle.srs_file.specs.Questions.{orbit_numbers, IsOrbitAsked, IsQuestion, AreQuestions, region_text}
+use Rattle.srs_file.specs.Questions.{orbit_numbers, IsQuestion, AreQuestions, region_text}
+use Rattle.srs_tree.specs.Questions.{IsOrbitAsked}
 use Rattle.srs_file.specs.Ring.{RingView, no_ring}
 use Rattle.srs_file.specs.QuestionReading.{TakesQuestion}
 use Rattle.srs_file.proofs.LineShapes.{point_plain, region_plain, orbit_plain, three_fit}

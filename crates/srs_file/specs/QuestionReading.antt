@@ -11,7 +11,8 @@ use Rattle.srs_line.specs.Fields.{Says, HasWord, IsFieldSlip}
 use Rattle.srs_file.specs.declared.questions.Questions.{Questions}
 use Rattle.srs_file.specs.Ring.{RingView, no_ring, Opens, IsOpenSlip, TakesVertex, SlipsVertex}
 use Rattle.srs_file.specs.Sayings.{place_numbers}
-use Rattle.srs_file.specs.Questions.{orbit_numbers, IsOrbitAsked}
+use Rattle.srs_file.specs.Questions.{orbit_numbers}
+use Rattle.srs_tree.specs.Questions.{IsOrbitAsked}
 
 -- no question yet
 abbrev pub no_questions : Questions

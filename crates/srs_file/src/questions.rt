@@ -6,7 +6,8 @@ ghost use Rattle.srs_plane.specs.Polygons.{region_of};
 ghost use Rattle.srs_tree.specs.declared.queries.Query.TheVariants.{Polygon};
 ghost use Rattle.srs_line.specs.Refusal.{IsSlip};
 ghost use Rattle.srs_file.specs.Ring.{IsFull, no_ring, IsOpenSlip, SlipsVertex};
-ghost use Rattle.srs_file.specs.Questions.{orbit_numbers, IsOrbitAsked};
+ghost use Rattle.srs_file.specs.Questions.{orbit_numbers};
+ghost use Rattle.srs_tree.specs.Questions.{IsOrbitAsked, IsAskable};
 ghost use Rattle.srs_file.specs.QuestionReading.{no_questions, Asks, SaysPlace, IsPlaceSlip, SaysOrbit, IsOrbitSlip, StepsPoint, StepsRegion, StepsOrbit, StepsVertex, TakesQuestion, SlipsQuestion};
 
 use crate::Ring;
@@ -124,6 +125,7 @@ impl Questions {
 
     // Puts the question at the end.
     fn ask(&mut self, query: Query) -> Result<(), LineErr>
+        requires { IsAskable query }
         ensures ok { OnOk result (Asks self.old query self.new) }
         ensures err { IfErr result (IsSlip (λ slip back. ⊥)) }
     {

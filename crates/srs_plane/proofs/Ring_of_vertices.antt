@@ -2,9 +2,12 @@
 use Rattle.std.proofs.Common.{◌≡◌, ◌≢◌, ℕ, ◌+◌, ◌%◌, ◌<◌, ◌≤◌, List, length, get_or, pos, sym, ap, ◌∙◌, arith}
 use Rattle.std.proofs.Math.Nat.{mod-eq_of_lt, mod_self, zero-mod, mod-mod}
 use Rattle.std.proofs.lemmas.List.{get_or_default}
+use Rattle.std.proofs.lemmas.List.FromFn.{length-map-range_with_len}
 use Rattle.srs_plane.specs.declared.halves.Kind.TheVariants.{Ge}
+use Rattle.srs_plane.specs.declared.halves.Half.{Half}
 use Rattle.srs_plane.specs.declared.polygons.Vertex.{Vertex}
-use Rattle.srs_plane.specs.Polygons.{vertex_at, IsOffEdge}
+use Rattle.srs_plane.specs.Regions.{Area}
+use Rattle.srs_plane.specs.Polygons.{vertex_at, edge_at, IsCounted, IsOffEdge, region_of}
 
 abbrev nought : Vertex
 nought = record { p = pos 0; q = pos 0; d = pos 1; kind = Ge }
@@ -27,3 +30,10 @@ first_off vs i low high = record { there = omega arith; not_start = omega arith;
   where
     off : (i + 1) % length vs ≡ i + 1 → 0 ≢ (i + 1) % length vs
     off e = omega arith
+
+-- a polygon has as many halves as vertices
+pub few_halves : (vs : List Vertex) (R : Area) → IsCounted vs → R ≡ region_of vs → length R ≤ 16
+few_halves vs R counted is =
+    let side : ℕ → Half = λ i. record { form = edge_at vs i; kind = (vertex_at vs i).kind } in
+    let e : length R ≡ length vs = ap length is ∙ length-map-range_with_len side 0 (length vs) in
+    omega (arith, e, counted.1)

@@ -1,9 +1,7 @@
 -- The certificate of a refined polygon.
-use Rattle.std.proofs.Common.{◌≡◌, ℕ, ◌≤◌, List, length, ap, subst, ◌∙◌, arith}
-use Rattle.std.proofs.lemmas.List.FromFn.{length-map-range_with_len}
+use Rattle.std.proofs.Common.{◌≡◌, ℕ, List, subst}
 use Rattle.srs_plane.specs.declared.polygons.Vertex.{Vertex}
-use Rattle.srs_plane.specs.declared.halves.Half.{Half}
-use Rattle.srs_plane.specs.Polygons.{vertex_at, edge_at, IsCounted, region_of}
+use Rattle.srs_plane.specs.Polygons.{region_of}
 use Rattle.srs_plane.specs.Regions.{Area, HasPoint}
 use Rattle.srs_path.specs.Views.{Budget, IsBudget}
 use Rattle.srs_tree.specs.Snapshots.{Snapshot}
@@ -16,13 +14,6 @@ use Rattle.srs_tree.proofs.PlannedSteps.{outcome_of_event}
 use Rattle.srs_file.specs.Certificates.{cert_text}
 use Rattle.srs_tool.specs.Output.{IsCertificateOf}
 use Rattle.srs_tool.specs.Refined.{IsRefined}
-
--- a polygon has as many halves as vertices
-pub few_halves : (vs : List Vertex) (R : Area) → IsCounted vs → R ≡ region_of vs → length R ≤ 16
-few_halves vs R counted is =
-    let side : ℕ → Half = λ i. record { form = edge_at vs i; kind = (vertex_at vs i).kind } in
-    let e : length R ≡ length vs = ap length is ∙ length-map-range_with_len side 0 (length vs) in
-    omega (arith, e, counted.1)
 
 -- in preorder the events list a whole tree within the limits
 pub refined_listed : (b : Budget) (R : Area) (v : Snapshot) → IsBudget b → IsRefined R b v → ListsWholeTree (preorder_of v) × IsWithin b (preorder_of v)

@@ -1,9 +1,11 @@
-use Rattle.std.proofs.Common.{◌≡◌, ◌+◌, ◌∷◌, List, length, slice_get, Some, sym, ap, subst, ◌∙◌, arith}
+use Rattle.std.proofs.Common.{◌≡◌, ◌+◌, ◌∷◌, List, length, slice_get, Some, refl, sym, ap, subst, ◌∙◌, arith}
 use Rattle.std.specs.Prelude.{MatchOption}
 use Rattle.std.specs.declared.option.Option.{Option}
 use Rattle.srs_cell.specs.declared.cells.Cell.{Cell}
 use Rattle.srs_num.specs.Points.{LinearForm}
 use Rattle.srs_plane.specs.Regions.{Area}
+use Rattle.srs_plane.specs.Polygons.{region_of}
+use Rattle.srs_plane.proofs.Ring_of_vertices.{few_halves}
 use Rattle.srs_path.specs.declared.outcomes.Outcome.{Outcome}
 use Rattle.srs_path.specs.declared.outcomes.Outcome.TheVariants.{Cut}
 use Rattle.srs_path.specs.Views.{Entry}
@@ -12,14 +14,14 @@ use Rattle.std.specs.FinMap as finite
 use Rattle.srs_tree.specs.Snapshots.{Snapshot}
 use Rattle.srs_check.specs.Tested.{IsDivided}
 use Rattle.srs_check.proofs.Answering.{same_get}
-use Rattle.srs_check.proofs.WalkStates.{WalkState, some_cell, few_root, few_here}
+use Rattle.srs_check.proofs.WalkStates.{WalkState, some_cell, few_here}
 use Rattle.srs_check.proofs.Building.{GrownTo, grown_first, grown_last, cell_is_open, same_region, proved_here, cut_is_short, grown_leaf, grown_cut}
 use Rattle.srs_check.proofs.builds.version_of.Goals as goal
 use Rattle.srs_check.proofs.builds.version_of.Goals.{in-Some-2+in_ok-divide, in_default-2}
 
 pub start-requires : goal.start-requires
 start-requires c =
-    let few = few_root c.args.c.now.vertices c.node_count-nodes.ensures.certificate.polygon in
+    let few = few_halves c.args.c.now.vertices (region_of c.args.c.now.vertices) c.node_count-nodes.ensures.certificate.polygon.counted refl in
     omega (arith, few, ap length c.in_ok-copy.ensures, ap length c.in_ok-root.ensures)
 
 pub loop-i-init : goal.loop-i-init

@@ -1,7 +1,8 @@
 use Rattle.std.proofs.Common.{◌≢◌, ℕ, ℤ, pos, inr, refl, ap}
 use Rattle.srs_num.specs.declared.pairs.V2.{V2}
 use Rattle.srs_num.specs.Points.{Point}
-use Rattle.srs_file.specs.Questions.{orbit_numbers, IsOrbitAsked}
+use Rattle.srs_file.specs.Questions.{orbit_numbers}
+use Rattle.srs_tree.specs.Questions.{IsOrbitAsked}
 use Rattle.srs_file.proofs.questions.orbit.Goals as goal
 
 pub returns-in-None-clause-err : goal.returns-in-None-clause-err

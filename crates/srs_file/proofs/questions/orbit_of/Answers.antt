@@ -3,7 +3,8 @@ use Rattle.std.proofs.lemmas.Int.{ints}
 use Rattle.srs_num.specs.declared.pairs.V2.{V2}
 use Rattle.srs_num.specs.Points.{Point, IsPtSized, IsNear}
 use Rattle.srs_map.specs.Step.{IsNarrow}
-use Rattle.srs_file.specs.Questions.{orbit_numbers, IsOrbitAsked}
+use Rattle.srs_file.specs.Questions.{orbit_numbers}
+use Rattle.srs_tree.specs.Questions.{IsOrbitAsked}
 use Rattle.srs_file.proofs.questions.orbit_of.Goals as goal
 
 counted : (n : ℤ) → pos 0 ≤ℤ n → n ≤ℤ pos 100000 → (n ≡ pos (unsigned_abs n)) × (unsigned_abs n ≤ 100000)

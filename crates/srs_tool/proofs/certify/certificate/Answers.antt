@@ -3,7 +3,8 @@ use Rattle.srs_plane.specs.declared.polygons.Vertex.{Vertex}
 use Rattle.srs_tree.specs.Tree.{History}
 use Rattle.srs_tree.specs.WholeTrees.{ListsWholeTree, IsWithin}
 use Rattle.srs_file.specs.Certificates.{cert_text}
-use Rattle.srs_tool.proofs.Certifying.{few_halves, refined_listed, certificate_of}
+use Rattle.srs_plane.proofs.Ring_of_vertices.{few_halves}
+use Rattle.srs_tool.proofs.Certifying.{refined_listed, certificate_of}
 use Rattle.srs_tool.proofs.certify.certificate.Goals as goal
 
 pub rounds-requires : goal.rounds-requires
