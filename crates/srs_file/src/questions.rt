@@ -166,6 +166,8 @@ fn orbit(line: &[u8]) -> Result<(Pt, V2, u32), Slip>
     }
 }
 
+const MOST_STEPS: i64 = 100000;
+
 // The six numbers as an orbit that may be asked about.
 fn orbit_of(said: &(i64, i64, i64, i64, i64, i64)) -> Option<(Pt, V2, u32)>
     ensures some { IfSome result (λ o. IsOrbitAsked o.0 o.1 o.2 × (said.now.0 ∷ said.now.1 ∷ said.now.2 ∷ said.now.3 ∷ said.now.4 ∷ said.now.5 ∷ [] ≡ orbit_numbers o.0 o.1 (pos o.2))) }
@@ -174,7 +176,7 @@ fn orbit_of(said: &(i64, i64, i64, i64, i64, i64)) -> Option<(Pt, V2, u32)>
     let (p, q, d, a, b, steps) = *said;
     let r = Pt::new(p, q, d)?;
     let pair = V2 { a, b };
-    if !r.near() || !is_narrow(pair) || steps < 0 || steps > 100000 {
+    if !r.near() || !is_narrow(pair) || steps < 0 || steps > MOST_STEPS {
         return None;
     }
     Some((r, pair, steps as u32))
