@@ -80,18 +80,6 @@ rest_no_lf (z ∷ zs) f =
 pub line_no_lf : (word : List ℕ) (zs : List ℤ) → IsPlain word → All (FitsSigned w64) zs → HasNoLf (line_of word zs)
 line_no_lf word zs p f = All-append (λ c. c ≢ 10) word (rest_of zs) (no_lf word p) (rest_no_lf zs f)
 
-pub one_is : (xs : List ℤ) (d : ℤ) → length xs ≡ 1 → xs ≡ get_or xs 0 d ∷ []
-one_is [] d e = absurd (omega arith)
-one_is (x ∷ []) d e = refl
-one_is (x ∷ y ∷ xs) d e = absurd (omega arith)
-
-pub three_is : (xs : List ℤ) (d : ℤ) → length xs ≡ 3 → xs ≡ get_or xs 0 d ∷ get_or xs 1 d ∷ get_or xs 2 d ∷ []
-three_is [] d e = absurd (omega arith)
-three_is (x ∷ []) d e = absurd (omega arith)
-three_is (x ∷ y ∷ []) d e = absurd (omega arith)
-three_is (x ∷ y ∷ z ∷ []) d e = refl
-three_is (x ∷ y ∷ z ∷ w ∷ xs) d e = absurd (omega arith)
-
 pub six_is : (xs : List ℤ) (d : ℤ) → length xs ≡ 6 → xs ≡ get_or xs 0 d ∷ get_or xs 1 d ∷ get_or xs 2 d ∷ get_or xs 3 d ∷ get_or xs 4 d ∷ get_or xs 5 d ∷ []
 six_is [] d e = absurd (omega arith)
 six_is (x ∷ []) d e = absurd (omega arith)
