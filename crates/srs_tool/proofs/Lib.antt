@@ -3,3 +3,4 @@ pub mod Telling
 pub mod Completing
 pub mod RoundSteps
 pub mod Certifying
+pub mod Drawing
