@@ -11,7 +11,8 @@ use Rattle.srs_file.specs.Texts.{ended, count_text, limits_text, head_text, outc
 use Rattle.srs_file.specs.Certificates.{outcomes_of, IsCertificate, cert_text}
 use Rattle.srs_file.specs.Grammar.{SpellsCertificate}
 use Rattle.srs_file.specs.CertReading.{StepsFrom, CertSteps, CertEnds, cert_start, read_view}
-use Rattle.srs_file.proofs.PolygonTexts.{so_far, IsFull, opened_text, added}
+use Rattle.srs_file.specs.Ring.{IsFull}
+use Rattle.srs_file.proofs.RingTexts.{so_far, opened_text, added}
 use Rattle.srs_file.proofs.TreeTexts.{tree_text, IsGrown, root_grown, grows}
 
 abbrev pub srs_text : List ℕ
@@ -21,7 +22,7 @@ srs_text = count_text (codes "srs") 1
 abbrev pub spelled : CertPhase → CertReader → List ℕ
 spelled First s = []
 spelled Head s = srs_text
-spelled Vertices s = srs_text ++ so_far s.ring.vertices s.ring.left
+spelled Vertices s = srs_text ++ so_far (codes "polygon") s.ring.vertices s.ring.left
 spelled Nodes s = head_text s.ring.vertices s.tree.limits ++ tree_text s.tree
 spelled Done s = (head_text s.ring.vertices s.tree.limits ++ tree_text s.tree) ++ ended (codes "end")
 
@@ -37,7 +38,7 @@ IsFine Done s = IsFull s.ring × IsGrown s.tree × (s.tree.pending ≡ [])
 after : (a b c l : List ℕ) → b ≡ c ++ l → a ++ b ≡ (a ++ c) ++ l
 after a b c l e = ap (λ x. a ++ x) e ∙ sym (append_assoc a c l)
 
-limits_said : (s : CertReader) (b : Budget) (line : List ℕ) → s.ring.left ≡ 0 → ended line ≡ limits_text b → head_text s.ring.vertices b ++ [] ≡ (srs_text ++ so_far s.ring.vertices s.ring.left) ++ ended line
+limits_said : (s : CertReader) (b : Budget) (line : List ℕ) → s.ring.left ≡ 0 → ended line ≡ limits_text b → head_text s.ring.vertices b ++ [] ≡ (srs_text ++ so_far (codes "polygon") s.ring.vertices s.ring.left) ++ ended line
 limits_said s b line zero e =
     let size : length s.ring.vertices + s.ring.left ≡ length s.ring.vertices = omega (arith, zero) in
     rw (size, e) (append-nil (head_text s.ring.vertices b))
@@ -45,10 +46,10 @@ limits_said s b line zero e =
 step_text : (phase : CertPhase) (s t : CertReader) (line : List ℕ) → s.phase ≡ phase → StepsFrom phase s line t → IsFine phase s → (spelled t.phase t ≡ spelled phase s ++ ended line) × IsFine t.phase t
 step_text First s t line at (p, e) fine = rw e (sym (ap ended (said_is (codes "srs") (pos 1 ∷ []) line p).0), tt)
 step_text Head s t line at (r, (n, p, e), f) fine =
-    rw (f, e) (ap (λ x. srs_text ++ x) (opened_text n line (said_is (codes "polygon") (pos n ∷ []) line p.2).0), (λ zero. absurd (omega (arith, p.0, zero))))
+    rw (f, e) (ap (λ x. srs_text ++ x) (opened_text (codes "polygon") n line (said_is (codes "polygon") (pos n ∷ []) line p.2).0), (λ zero. absurd (omega (arith, p.0, zero))))
 step_text Vertices s t line at (inl (a, r, (v, p, adds), f)) fine =
-    let more = added s.ring r v line a p adds in
-    rw (f, at) (after srs_text (so_far r.vertices r.left) (so_far s.ring.vertices s.ring.left) (ended line) more.0, more.1)
+    let more = added (codes "polygon") s.ring r v line a p adds in
+    rw (f, at) (after srs_text (so_far (codes "polygon") r.vertices r.left) (so_far (codes "polygon") s.ring.vertices s.ring.left) (ended line) more.0, more.1)
 step_text Vertices s t line at (inr (a, (b, p, e))) fine =
     rw e (limits_said s b line a (ap ended (said_is (codes "limits") (pos b.depth ∷ pos b.cells ∷ pos b.wits ∷ []) line p.0).0), (fine a, root_grown b p.1))
 step_text Nodes s t line at (inl (a, tree, p, e)) fine =

@@ -14,5 +14,11 @@ pub mod Preordered
 pub mod LtParts
 pub mod Descents
 pub mod RingLaws
+pub mod RingTexts
+pub mod QuestionLaws
+pub mod QuestionTexts
+pub mod QuestionRuns
+pub mod AskTexts
+pub mod AskLaws
 pub mod PolygonLaws
 pub mod PolygonTexts

@@ -44,13 +44,22 @@ in_plain = high_plain (codes "in") (search rules)
 pub out_plain : IsPlainWord (codes "out")
 out_plain = high_plain (codes "out") (search rules)
 
+pub point_plain : IsPlainWord (codes "point")
+point_plain = high_plain (codes "point") (search rules)
+
+pub region_plain : IsPlainWord (codes "region")
+region_plain = high_plain (codes "region") (search rules)
+
+pub orbit_plain : IsPlainWord (codes "orbit")
+orbit_plain = high_plain (codes "orbit") (search rules)
+
 pub cut_plain : IsPlainWord (codes "cut")
 cut_plain = high_plain (codes "cut") (search rules)
 
-three_fit : (a b c : ℤ) → FitsSigned w64 a → FitsSigned w64 b → FitsSigned w64 c → All (FitsSigned w64) (a ∷ b ∷ c ∷ [])
+pub three_fit : (a b c : ℤ) → FitsSigned w64 a → FitsSigned w64 b → FitsSigned w64 c → All (FitsSigned w64) (a ∷ b ∷ c ∷ [])
 three_fit a b c f g h = All-cons (FitsSigned w64) a (b ∷ c ∷ []) f (All-cons (FitsSigned w64) b (c ∷ []) g (All-cons (FitsSigned w64) c [] h (All-nil (FitsSigned w64))))
 
-number_fits : (n : ℕ) → n ≤ 65536 → FitsSigned w64 (pos n)
+pub number_fits : (n : ℕ) → n ≤ 65536 → FitsSigned w64 (pos n)
 number_fits n h = omega (arith, ints)
 
 pub count_fits : (n : ℕ) → n ≤ 65536 → All (FitsSigned w64) (pos n ∷ [])

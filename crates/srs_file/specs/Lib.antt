@@ -1,10 +1,13 @@
 pub mod Texts
 pub mod Certificates
 pub mod Heights
-pub mod Grammar
 pub mod Sayings
+pub mod Questions
+pub mod Grammar
 pub mod Ring
 pub mod PolygonReading
 pub mod Leaf
 pub mod TreeReading
 pub mod CertReading
+pub mod QuestionReading
+pub mod AskReading

@@ -19,6 +19,14 @@ pub record RingView : Type 0 where
   pub vertices : List Vertex
   pub region : Option Area
 
+-- no vertex, and none to come
+abbrev pub no_ring : RingView
+no_ring = record { left = 0; vertices = []; region = None }
+
+-- the vertices are a polygon, and the region is theirs
+abbrev pub IsFull : RingView → Type 0
+IsFull ring = IsPolygon ring.vertices × (ring.region ≡ Some (region_of ring.vertices))
+
 -- what a ring keeps while it is read: each vertex is in its range, and together with those to come there are 3 to 16
 pub record IsGrowing (left : ℕ) (vs : List Vertex) : Type 0 where
   pub placed : All IsPlaced vs

@@ -1,5 +1,5 @@
 -- The lines of what is said.
-use Rattle.std.specs.Prelude.{ℕ, List, Bool, [], ◌∷◌, ◌++◌, length, pos, codes, if◌then◌else◌, Some, None}
+use Rattle.std.specs.Prelude.{ℕ, ℤ, List, Bool, [], ◌∷◌, ◌++◌, length, pos, codes, if◌then◌else◌, Some, None}
 use Rattle.std.specs.declared.option.Option.{Option}
 use Rattle.srs_num.specs.Points.{Point as Place}
 use Rattle.srs_map.specs.declared.orbits.OrbitEnd.{OrbitEnd}
@@ -25,9 +25,13 @@ reply_text (Outside cycle) = line_of (codes "out") (pos (length cycle) ∷ cycle
 reply_text (Undecided cause) = open_text cause
 reply_text Beyond = codes "beyond"
 
+-- the three numbers of a point
+abbrev pub place_numbers : Place → List ℤ
+place_numbers r = r.p ∷ r.q ∷ r.d ∷ []
+
 -- which point it is
 abbrev pub place_text : Place → List ℕ
-place_text r = line_of (codes "point") (r.p ∷ r.q ∷ r.d ∷ [])
+place_text r = line_of (codes "point") (place_numbers r)
 
 -- the answer at a point
 abbrev pub answer_text : Place → Reply → List ℕ

@@ -30,9 +30,13 @@ kind_word Gt = codes "gt"
 abbrev pub vertex_text : Vertex → List ℕ
 vertex_text v = ended (line_of (kind_word v.kind) (v.p ∷ v.q ∷ v.d ∷ []))
 
--- how many vertices, and the vertices
+-- after the word how many vertices, and the vertices
+abbrev pub vertices_text : List ℕ → List Vertex → List ℕ
+vertices_text word vs = count_text word (length vs) ++ flat_map vertex_text vs
+
+-- the lines of a polygon
 abbrev pub ring_text : List Vertex → List ℕ
-ring_text vs = count_text (codes "polygon") (length vs) ++ flat_map vertex_text vs
+ring_text vs = vertices_text (codes "polygon") vs
 
 -- the input of `certify`: a polygon and `end`
 abbrev pub polygon_text : List Vertex → List ℕ

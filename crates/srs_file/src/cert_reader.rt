@@ -5,12 +5,13 @@ ghost use Rattle.srs_line.specs.declared.slip.Slip.{Slip};
 ghost use Rattle.srs_line.specs.Refusal.{IsSlip};
 ghost use Rattle.srs_file.specs.Grammar.{SpellsCertificate};
 ghost use Rattle.srs_file.specs.Certificates.{CertView, IsCertificate, cert_text};
-ghost use Rattle.srs_file.specs.CertReading.{cert_start, StepsFirst, SlipsFirst, StepsHead, SlipsHead, SaysLimits, AreNoLimits, IsLimitsSlip, StepsLimits, StepsVertices, SlipsVertices, StepsNodes, SlipsNodes, ReadsAsCert, FirstCertSlip, IsCertRefusal, IsNoCert};
+ghost use Rattle.srs_file.specs.CertReading.{cert_start, read_view, StepsFirst, SlipsFirst, StepsHead, SlipsHead, SaysLimits, AreNoLimits, IsLimitsSlip, StepsLimits, StepsVertices, SlipsVertices, StepsNodes, SlipsNodes, ReadsAsCert, FirstCertSlip, IsCertRefusal, IsNoCert};
 
 use crate::{Cert, Ring, Tree};
 use srs_line::{
     FileErr, LineErr, LineMachine, Slip, never_both, one, one_slip, read_lines, read_once, three,
 };
+use srs_num::NoMemory;
 use srs_path::Limits;
 use std::alloc::Global;
 
@@ -43,6 +44,16 @@ impl CertReader {
             ring: Ring::new(alloc),
             tree: Tree::new(alloc),
         }
+    }
+
+    /// What was read, once it is a certificate. An `Err` is want of memory.
+    pub fn into_cert(self, alloc: Global) -> Result<Cert, NoMemory>
+        requires { IsCertificate (read_view self) }
+        ensures { IfOk result (λ c. c ≡ read_view self) }
+    {
+        let (vertices, _) = self.ring.into_parts();
+        let (limits, events) = self.tree.into_parts();
+        Cert::new(alloc, vertices.as_slice(), limits, events)
     }
 
     fn first(&mut self, line: &[u8]) -> Result<(), LineErr>
@@ -176,9 +187,7 @@ pub fn read_cert(alloc: Global, text: &[u8]) -> Result<Cert, FileErr>
 {
     let mut reader = CertReader::new(alloc);
     read_lines(&mut reader, text)?;
-    let (vertices, _) = reader.ring.into_parts();
-    let (limits, events) = reader.tree.into_parts();
-    match Cert::new(alloc, vertices.as_slice(), limits, events) {
+    match reader.into_cert(alloc) {
         Ok(cert) => Ok(cert),
         Err(_) => Err(FileErr::NoMemory),
     }

@@ -1,20 +1,24 @@
-//! The texts of polygons and certificates: what they say, and their readers.
+//! The texts of polygons, certificates and questions: what they say, and their readers.
 #![tactic(auto)]
 
+mod ask_reader;
 mod cert_reader;
 mod certificates;
 mod gathered;
 mod leaf;
 mod polygon_reader;
+mod questions;
 mod ring;
 mod tree;
 mod vertex;
 
+pub use ask_reader::{AskReader, one_ask_input, read_ask};
 pub use cert_reader::{CertPhase, CertReader, one_certificate, read_cert};
 pub use certificates::Cert;
 pub use gathered::{Events, PathStack};
 pub use leaf::Leaf;
 pub use polygon_reader::{Phase, PolygonReader, one_polygon, read_polygon};
+pub use questions::Questions;
 pub use ring::Ring;
 pub use srs_line::{FileErr, Slip};
 pub use tree::Tree;

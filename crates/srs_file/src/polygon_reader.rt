@@ -11,6 +11,7 @@ ghost use Rattle.srs_file.specs.PolygonReading.{start, StepsHead, SlipsHead, Ste
 use crate::Ring;
 use srs_cell::Cell;
 use srs_line::{FileErr, LineErr, LineMachine, Slip, never_both, one_slip, read_lines, read_once};
+use srs_num::NoMemory;
 use srs_plane::{Region, Vertices};
 use std::alloc::Global;
 
@@ -102,21 +103,23 @@ pub fn read_polygon(alloc: Global, text: &[u8]) -> Result<(Vertices, Cell), File
     read_lines(&mut reader, text)?;
     let (vertices, region) = reader.ring.into_parts();
     match region {
-        Some(region) => Ok((vertices, inhabited(alloc, region)?)),
+        Some(region) => match inhabited(alloc, region) {
+            Ok(cell) => Ok((vertices, cell)),
+            Err(_) => Err(FileErr::NoMemory),
+        },
         None => unreachable!(),
     }
 }
 
-// The cell of a region that has a point.
-pub(crate) fn inhabited(alloc: Global, region: Region) -> Result<Cell, FileErr>
+// The cell of a region that has a point. An `Err` is want of memory.
+pub(crate) fn inhabited(alloc: Global, region: Region) -> Result<Cell, NoMemory>
     requires { HasPoint region }
-    ensures ok { IfOk result (λ cell. cell ≡ region) }
-    ensures err { IfErr result (λ e. e ≡ FileErr.NoMemory) }
+    ensures { IfOk result (λ cell. cell ≡ region) }
 {
     match Cell::of(alloc, region) {
         Ok(Some(cell)) => Ok(cell),
         Ok(None) => unreachable!(),
-        Err(_) => Err(FileErr::NoMemory),
+        Err(e) => Err(e),
     }
 }
 

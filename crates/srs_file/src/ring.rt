@@ -4,13 +4,14 @@ ghost use Rattle.std.specs.List.{All};
 ghost use Rattle.srs_plane.specs.Placed.{IsPlaced};
 ghost use Rattle.srs_plane.specs.Polygons.{IsCounted, IsPolygon, region_of};
 ghost use Rattle.srs_line.specs.Refusal.{IsSlip};
-ghost use Rattle.srs_file.specs.Ring.{Opens, IsOpenSlip, Adds, SlipsAdd, TakesVertex, SlipsVertex, IsTurn};
+ghost use Rattle.srs_file.specs.Ring.{no_ring, Opens, IsOpenSlip, Adds, SlipsAdd, TakesVertex, SlipsVertex, IsTurn};
 
 use crate::vertex::vertex;
 use srs_line::{LineErr, Slip, count_of};
 use srs_plane::{PolyErr, Region, Vertex, Vertices, polygon};
 use std::alloc::Global;
 use std::marker::Model;
+use std::mem;
 
 /// A ring of vertices while its lines are read: how many are still to come, those that came, and the region once all
 /// of them are there.
@@ -35,7 +36,7 @@ impl Model for Ring {
 impl Ring {
     /// No vertex, and none to come. It takes no memory.
     pub fn new(alloc: Global) -> Ring
-        ensures { result ≡ record { left = 0; vertices = []; region = None } }
+        ensures { result ≡ no_ring }
     {
         Ring {
             alloc,
@@ -43,6 +44,11 @@ impl Ring {
             vertices: Vertices::new(alloc),
             region: None,
         }
+    }
+
+    /// Where its memory comes from.
+    pub fn alloc(&self) -> Global {
+        self.alloc
     }
 
     /// Whether a vertex is still to come.
@@ -98,6 +104,16 @@ impl Ring {
             self.region = Some(enclosed(self.alloc, &self.vertices)?);
         }
         Ok(())
+    }
+
+    /// The region once all the vertices are there; the ring begins anew, with none to come. It takes no memory.
+    pub fn close(&mut self) -> Option<Region>
+        ensures region { result ≡ self.old.region }
+        ensures empty { self.new ≡ no_ring }
+    {
+        let alloc = self.alloc;
+        let ring = mem::replace(self, Ring::new(alloc));
+        ring.region
     }
 
     /// The vertices, and their region once all of them are there.

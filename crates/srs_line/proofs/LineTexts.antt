@@ -91,3 +91,13 @@ three_is (x ∷ []) d e = absurd (omega arith)
 three_is (x ∷ y ∷ []) d e = absurd (omega arith)
 three_is (x ∷ y ∷ z ∷ []) d e = refl
 three_is (x ∷ y ∷ z ∷ w ∷ xs) d e = absurd (omega arith)
+
+pub six_is : (xs : List ℤ) (d : ℤ) → length xs ≡ 6 → xs ≡ get_or xs 0 d ∷ get_or xs 1 d ∷ get_or xs 2 d ∷ get_or xs 3 d ∷ get_or xs 4 d ∷ get_or xs 5 d ∷ []
+six_is [] d e = absurd (omega arith)
+six_is (x ∷ []) d e = absurd (omega arith)
+six_is (x ∷ y ∷ []) d e = absurd (omega arith)
+six_is (x ∷ y ∷ z ∷ []) d e = absurd (omega arith)
+six_is (x ∷ y ∷ z ∷ u ∷ []) d e = absurd (omega arith)
+six_is (x ∷ y ∷ z ∷ u ∷ v ∷ []) d e = absurd (omega arith)
+six_is (x ∷ y ∷ z ∷ u ∷ v ∷ w ∷ []) d e = refl
+six_is (x ∷ y ∷ z ∷ u ∷ v ∷ w ∷ t ∷ xs) d e = absurd (omega arith)

@@ -11,6 +11,6 @@ mod tokens;
 pub use laws::{never_both, one_slip, read_once};
 pub use machine::{LineMachine, read_lines};
 pub use many::numbers_of;
-pub use shape::{count_of, fields, has_word, one, one_line, three};
+pub use shape::{count_of, fields, has_word, one, one_line, six, three};
 pub use slip::{FileErr, LineErr, Slip};
 pub use tokens::Tokens;

@@ -98,6 +98,18 @@ pub fn three(line: &[u8], word: &[u8]) -> Result<(i64, i64, i64), Slip>
     }
 }
 
+/// Reads the line as the word and six numbers. It takes no memory.
+pub fn six(line: &[u8], word: &[u8]) -> Result<(i64, i64, i64, i64, i64, i64), Slip>
+    ensures ok { IfOk result (λ r. Says word.now (r.0 ∷ r.1 ∷ r.2 ∷ r.3 ∷ r.4 ∷ r.5 ∷ []) line.now) }
+    ensures err { IfErr result (IsFieldSlip word.now 6 line.now) }
+{
+    let mut into = [0i64; 6];
+    match fields(line, word, &mut into) {
+        Ok(()) => Ok((into[0], into[1], into[2], into[3], into[4], into[5])),
+        Err(slip) => Err(slip),
+    }
+}
+
 /// Reads the line as the word and a number from `low` to `high`; any other number is the slip `outside`. It takes no
 /// memory.
 pub fn count_of(line: &[u8], word: &[u8], low: u32, high: u32, outside: Slip) -> Result<u32, Slip>
