@@ -7,7 +7,7 @@ use Rattle.srs_text.specs.Spelling.{IsNumber}
 use Rattle.srs_text.specs.Ends.{Rose}
 use Rattle.srs_path.specs.Views.{Budget}
 use Rattle.srs_tool.specs.declared.words.Command.{Command}
-use Rattle.srs_tool.specs.declared.words.Command.TheVariants.{Certify, Check, Map}
+use Rattle.srs_tool.specs.declared.words.Command.TheVariants.{Certify, Check, Map, Ask}
 use Rattle.srs_tool.specs.declared.status.Status.{Status}
 use Rattle.srs_tool.specs.declared.status.Status.TheVariants.{Done, Bad, Usage, NoMemory, ReadFault, WriteFault, Refused, TooLong}
 use Rattle.srs_tool.specs.Words.{AsksCertify, AsksMap, SpellsSide, Asks, longest_input}
@@ -44,11 +44,17 @@ abbrev word_count : Command → ℕ
 word_count (Certify limits) = 4
 word_count Check = 1
 word_count (Map w h) = 3
+word_count Ask = 1
 
 counted : (words : List (List ℕ)) (c : Command) → Asks words c → length words ≡ word_count c
 counted words (Certify limits) h = ap length h.split
 counted words Check h = ap length h
 counted words (Map w k) h = ap length h.split
+counted words Ask h = ap length h
+
+-- of two words that differ in length only one is the one word
+one_word : (words : List (List ℕ)) (x y : List ℕ) → words ≡ x ∷ [] → words ≡ y ∷ [] → length x ≡ length y
+one_word words x y h k = let e : ◌≡◌ {A = List (List ℕ)} (x ∷ []) (y ∷ []) = sym h ∙ k in let q : x ≡ y = cc in ap length q
 
 -- words ask for one command
 same_command : (words : List (List ℕ)) (c d : Command) → Asks words c → Asks words d → c ≡ d
@@ -61,6 +67,13 @@ same_command words Check (Map w v) h k = absurd (omega (arith, counted words Che
 same_command words (Map w v) (Certify b) h k = absurd (omega (arith, counted words (Map w v) h, counted words (Certify b) k))
 same_command words (Map w v) Check h k = absurd (omega (arith, counted words (Map w v) h, counted words Check k))
 same_command words (Map w v) (Map x y) h k = same_size words w v x y h k
+same_command words (Certify a) Ask h k = absurd (omega (arith, counted words (Certify a) h, counted words Ask k))
+same_command words Check Ask h k = absurd (omega (arith, one_word words _ _ h k))
+same_command words (Map w v) Ask h k = absurd (omega (arith, counted words (Map w v) h, counted words Ask k))
+same_command words Ask (Certify b) h k = absurd (omega (arith, counted words Ask h, counted words (Certify b) k))
+same_command words Ask Check h k = absurd (omega (arith, one_word words _ _ h k))
+same_command words Ask (Map w v) h k = absurd (omega (arith, counted words Ask h, counted words (Map w v) k))
+same_command words Ask Ask h k = refl
 
 -- what was read to the end is what was there
 same_input : (left left_after : Option (List ℕ)) (input bytes : List ℕ) → left ≡ Some input → Consumes left left_after bytes → IsAtEnd left_after → bytes ≡ input
@@ -81,12 +94,14 @@ not_refused : (command : Command) (input output : List ℕ) → Owes command inp
 not_refused (Certify limits) input output owed good = owed.no_polygon good.0 good.1
 not_refused Check input output owed good = owed.no_certificate good.0 good.1
 not_refused (Map w h) input output owed good = owed.no_certificate good.0 good.1
+not_refused Ask input output owed good = owed.no_questions good.0 good.1.0 good.1.1
 
 -- a command at whose end something is bad checks a certificate
 bad_ends : (command : Command) (input output : List ℕ) → Owes command input Bad output → EndsWell command Bad
 bad_ends (Certify limits) input output owed = absurd owed
 bad_ends Check input output owed = inr (inr (refl, tt))
 bad_ends (Map w h) input output owed = inr (inr (refl, tt))
+bad_ends Ask input output owed = inr (inr (refl, tt))
 
 module _ (words : List (List ℕ)) (left left_after got got_after : Option (List ℕ)) (good : IsGoodRun words left) where
   refusal_fails : Completes words Refused left left_after got got_after → ⊥

@@ -4,3 +4,4 @@ pub mod Completing
 pub mod RoundSteps
 pub mod Certifying
 pub mod Drawing
+pub mod Replying

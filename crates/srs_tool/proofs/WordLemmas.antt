@@ -5,7 +5,7 @@ use Rattle.srs_text.specs.Spelling.{IsNumber}
 use Rattle.srs_text.proofs.Spellings.{number_once}
 use Rattle.srs_path.specs.Views.{Budget, IsBudget}
 use Rattle.srs_tool.specs.declared.words.Command.{Command}
-use Rattle.srs_tool.specs.declared.words.Command.TheVariants.{Certify, Check, Map}
+use Rattle.srs_tool.specs.declared.words.Command.TheVariants.{Certify, Check, Map, Ask}
 use Rattle.srs_tool.specs.Words.{SpellsLimits, SpellsSide, SpellsSize, AsksMap, Asks, IsInRange}
 
 pub same_count : (text : List ℕ) (m n : ℕ) → IsNumber text (pos m) → IsNumber text (pos n) → m ≡ n
@@ -33,6 +33,7 @@ pub asked_range : (words : List (List ℕ)) (command : Command) → Asks words c
 asked_range words (Certify limits) asked = tt
 asked_range words Check asked = tt
 asked_range words (Map w h) asked = (asked.size.columns_are.1, asked.size.rows_are.1)
+asked_range words Ask asked = tt
 
 pub last_two : (x y d e c f : List ℕ) → ◌≡◌ {A = List (List ℕ)} (x ∷ d ∷ c ∷ []) (y ∷ e ∷ f ∷ []) → (d ≡ e) × (c ≡ f)
 last_two x y d e c f same = (cc, cc)

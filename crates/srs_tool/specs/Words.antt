@@ -3,7 +3,7 @@ use Rattle.std.specs.Prelude.{◌≡◌, ⊤, ◌^◌, ◌≤◌, ℕ, List, [],
 use Rattle.srs_text.specs.Spelling.{IsNumber}
 use Rattle.srs_path.specs.Views.{Budget, IsBudget}
 use Rattle.srs_tool.specs.declared.words.Command.{Command}
-use Rattle.srs_tool.specs.declared.words.Command.TheVariants.{Certify, Check, Map}
+use Rattle.srs_tool.specs.declared.words.Command.TheVariants.{Certify, Check, Map, Ask}
 
 -- three numbers, in their one spelling, that are a depth, a number of cells and a number of witnesses
 pub record SpellsLimits (depth cells wits : List ℕ) (b : Budget) : Type 0 where
@@ -45,15 +45,18 @@ abbrev pub Asks : List (List ℕ) → Command → Type 0
 Asks words (Certify limits) = AsksCertify words limits
 Asks words Check = words ≡ codes "check" ∷ []
 Asks words (Map w h) = AsksMap words w h
+Asks words Ask = words ≡ codes "ask" ∷ []
 
 -- the numbers of the command are in their ranges
 abbrev pub IsInRange : Command → Type 0
 IsInRange (Certify limits) = ⊤
 IsInRange Check = ⊤
 IsInRange (Map w h) = IsSide w × IsSide h
+IsInRange Ask = ⊤
 
 -- the longest input that the command takes, in bytes
 abbrev pub longest_input : Command → ℕ
 longest_input (Certify limits) = 2 ^ 20
 longest_input Check = 2 ^ 27
 longest_input (Map w h) = 2 ^ 27
+longest_input Ask = 2 ^ 27

@@ -7,6 +7,7 @@ ghost use Rattle.srs_tool.specs.Words.{Asks, IsInRange, longest_input};
 ghost use Rattle.srs_tool.specs.Output.{refused_long, EndsWell};
 ghost use Rattle.srs_tool.specs.Ends.{Completes, StopsShort, Overruns, IsGoodRun, AnswersFor, BreaksFor, IsOverlong, Tells};
 
+use crate::ask::ask;
 use crate::certify::certify;
 use crate::check::check;
 use crate::map::draw;
@@ -100,7 +101,7 @@ fn limit_of(command: &Command) -> u64
 {
     match command {
         Command::Certify(_) => 1 << 20,
-        Command::Check | Command::Map(_, _) => 1 << 27,
+        Command::Check | Command::Map(_, _) | Command::Ask => 1 << 27,
     }
 }
 
@@ -115,5 +116,6 @@ fn answer<K: Sink>(alloc: Global, command: &Command, input: &[u8], sink: &mut K)
         Command::Certify(limits) => certify(alloc, limits, input, sink),
         Command::Check => check(alloc, input, sink),
         Command::Map(columns, rows) => draw(alloc, *columns, *rows, input, sink),
+        Command::Ask => ask(alloc, input, sink),
     }
 }

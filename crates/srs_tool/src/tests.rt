@@ -364,7 +364,7 @@ const REFUSED: [Row; 27] = [
 ];
 
 // Words in no form.
-const UNKNOWN: [&str; 26] = [
+const UNKNOWN: [&str; 29] = [
     "certify 0 1 0",
     "certify 0 1 16385",
     "certify 0 1 016",
@@ -389,6 +389,9 @@ const UNKNOWN: [&str; 26] = [
     "map 4 4 4",
     "map -4 4",
     "Map 4 4",
+    "ask 1",
+    "Ask",
+    "ask map 4 4",
     "",
     "--help",
 ];

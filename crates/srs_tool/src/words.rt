@@ -17,6 +17,8 @@ pub enum Command {
     Check,
     /// To check the certificate that is read, and print its map: so many columns and rows, each 1 to 200.
     Map(u32, u32),
+    /// To check the certificate that is read, and answer the questions behind it.
+    Ask,
 }
 
 /// The command that the words ask for, where they are in one of the forms that the program knows.
@@ -26,6 +28,9 @@ pub fn command_of(words: &[String]) -> Option<Command>
 {
     if is_alone(words, "check") {
         return Some(Command::Check);
+    }
+    if is_alone(words, "ask") {
+        return Some(Command::Ask);
     }
     if let Some((columns, rows)) = map_size(words) {
         return Some(Command::Map(columns, rows));
