@@ -40,7 +40,7 @@ outcome_at-built (e ∷ H) p =
     elim (path_eq e.path p) as (λ b. cond b (Some (as_built e.outcome)) (outcome_at (built_of H) p) ≡ built_in (cond b (Some e.outcome) (outcome_at H p))) [ true ↦ refl | false ↦ rest ]
 
 -- no cut is lost
-same_cuts : (x : Option Outcome) → cut_in (built_in x) ≡ cut_in x
+pub same_cuts : (x : Option Outcome) → cut_in (built_in x) ≡ cut_in x
 same_cuts None = refl
 same_cuts (Some (Inside ranks)) = refl
 same_cuts (Some (Outside cycle)) = refl

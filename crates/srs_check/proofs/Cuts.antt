@@ -86,10 +86,10 @@ module _ (S T : Tree) (same : (p : List Side) → S p ≡ cut_in (T p)) where
   pub region_same : (Root : Area) (p : List Side) → region_at Root S p ≡ region_at Root T p
   region_same Root p = ap (λ (x : List Half). Root ++ x) (halves_same [] p)
 
-  holds_forth : (Root : Area) (r : Point) (p : List Side) → HoldsAt Root T r p → HoldsAt Root S r p
+  pub holds_forth : (Root : Area) (r : Point) (p : List Side) → HoldsAt Root T r p → HoldsAt Root S r p
   holds_forth Root r p h = record { leaf = leaf_forth p h.leaf; point = subst (λ (R : Area). IsIn R r) (sym (region_same Root p)) h.point }
 
-  holds_back : (Root : Area) (r : Point) (p : List Side) → HoldsAt Root S r p → HoldsAt Root T r p
+  pub holds_back : (Root : Area) (r : Point) (p : List Side) → HoldsAt Root S r p → HoldsAt Root T r p
   holds_back Root r p h = record { leaf = leaf_back p h.leaf; point = subst (λ (R : Area). IsIn R r) (region_same Root p) h.point }
 
   partition_back : (Root : Area) → IsPartition Root S → IsPartition Root T

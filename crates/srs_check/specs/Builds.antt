@@ -13,6 +13,7 @@ use Rattle.srs_check.specs.declared.faults.Checked.TheVariants.{Valid, Bad}
 use Rattle.srs_check.specs.declared.builds.Built.{Built}
 use Rattle.srs_check.specs.declared.builds.Built.TheVariants.{Valid as BuiltValid, Bad as BuiltBad}
 use Rattle.srs_check.specs.Faults.{IsChecked}
+use Rattle.srs_check.specs.Certified.{IsCertified}
 
 -- the outcome that a node has in the version: the cause of a cell that is left isn't taken over
 abbrev pub as_built : Outcome → Outcome
@@ -31,7 +32,8 @@ pub record IsBuilt (c : CertView) (v : Snapshot) : Type 0 where
   pub region : v.region ≡ region_of c.vertices
   pub entries : (path : List Side) → tree_of v path ≡ built_in (outcome_at c.events path)
 
--- each node proves itself, with the version and the counts; or some node doesn't, with the line and the first fault
+-- each node proves itself, and what follows of that, with the version and the counts; or some node doesn't, with the line
+-- and the first fault
 abbrev pub IsBuiltFrom : CertView → Built → Type 0
-IsBuiltFrom c (BuiltValid v counts) = IsBuilt c v × IsChecked c (Valid counts)
+IsBuiltFrom c (BuiltValid v counts) = IsBuilt c v × IsChecked c (Valid counts) × IsCertified c
 IsBuiltFrom c (BuiltBad line fault) = IsChecked c (Bad line fault)

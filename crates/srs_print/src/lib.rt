@@ -8,4 +8,4 @@ mod said;
 
 pub use certificate::put_cert;
 pub use line::put_words;
-pub use said::put_said;
+pub use said::{put_answer, put_said};

@@ -1,5 +1,6 @@
 // The lines of what is said.
 ghost use Rattle.std.specs.Prelude.{◌≡◌, ◌++◌, ◌∷◌, OnOk, OnErr};
+ghost use Rattle.srs_tree.specs.Answers.{reply_of};
 ghost use Rattle.srs_file.specs.Sayings.{open_text, reply_text, place_text, answer_text, word_if, met_text, orbit_text, said_text};
 ghost use Rattle.srs_print.specs.Fronts.{StopsIn};
 
@@ -9,7 +10,7 @@ use srs_map::OrbitEnd;
 use srs_num::Pt;
 use srs_path::Cause;
 use srs_text::{Bytes, NoMemory};
-use srs_tree::{Met, Reply, Said};
+use srs_tree::{Answer, Met, Said};
 
 /// Appends the line of what is said. An `Err` is want of memory, and leaves a front of the line behind what was there.
 pub fn put_said(out: &mut Bytes, s: &Said) -> Result<(), NoMemory>
@@ -19,19 +20,21 @@ pub fn put_said(out: &mut Bytes, s: &Said) -> Result<(), NoMemory>
     match s {
         Said::At(round) => put_count(out, b"at", *round as u64),
         Said::Version(number) => put_count(out, b"version", *number),
-        Said::Point(r, reply) => put_answer(out, r, reply),
+        Said::Point(r, reply) => put_answer(out, r, &reply.lent()),
         Said::Count(outcomes) => put_count(out, b"count", *outcomes),
         Said::Polygon(met) => put_met(out, *met),
         Said::Orbit(end) => put_orbit(out, *end),
     }
 }
 
-fn put_answer(out: &mut Bytes, r: &Pt, reply: &Reply) -> Result<(), NoMemory>
-    ensures ok { OnOk result (out.new ≡ out.old ++ answer_text r.now reply.now) }
-    ensures err { OnErr result (StopsIn out.old (answer_text r.now reply.now) out.new) }
+/// Appends the line of the answer at the point. An `Err` is want of memory, and leaves a front of the line behind what was
+/// there.
+pub fn put_answer(out: &mut Bytes, r: &Pt, answer: &Answer<'_>) -> Result<(), NoMemory>
+    ensures ok { OnOk result (out.new ≡ out.old ++ answer_text r.now (reply_of answer.now)) }
+    ensures err { OnErr result (StopsIn out.old (answer_text r.now (reply_of answer.now)) out.new) }
 {
     put_place(out, r)?;
-    put_spaced_reply(out, reply)?;
+    put_spaced_reply(out, answer)?;
     out.extend(b"\n")
 }
 
@@ -43,23 +46,23 @@ fn put_place(out: &mut Bytes, r: &Pt) -> Result<(), NoMemory>
     put_words(out, b"point", &[p, q, d])
 }
 
-fn put_spaced_reply(out: &mut Bytes, reply: &Reply) -> Result<(), NoMemory>
-    ensures ok { OnOk result (out.new ≡ out.old ++ 32 ∷ reply_text reply.now) }
-    ensures err { OnErr result (StopsIn out.old (32 ∷ reply_text reply.now) out.new) }
+fn put_spaced_reply(out: &mut Bytes, answer: &Answer<'_>) -> Result<(), NoMemory>
+    ensures ok { OnOk result (out.new ≡ out.old ++ 32 ∷ reply_text (reply_of answer.now)) }
+    ensures err { OnErr result (StopsIn out.old (32 ∷ reply_text (reply_of answer.now)) out.new) }
 {
     out.extend(b" ")?;
-    put_reply(out, reply)
+    put_reply(out, answer)
 }
 
-fn put_reply(out: &mut Bytes, reply: &Reply) -> Result<(), NoMemory>
-    ensures ok { OnOk result (out.new ≡ out.old ++ reply_text reply.now) }
-    ensures err { OnErr result (StopsIn out.old (reply_text reply.now) out.new) }
+fn put_reply(out: &mut Bytes, answer: &Answer<'_>) -> Result<(), NoMemory>
+    ensures ok { OnOk result (out.new ≡ out.old ++ reply_text (reply_of answer.now)) }
+    ensures err { OnErr result (StopsIn out.old (reply_text (reply_of answer.now)) out.new) }
 {
-    match reply {
-        Reply::Inside => out.extend(b"in"),
-        Reply::Outside(cycle) => put_cycle(out, cycle),
-        Reply::Undecided(cause) => put_open(out, *cause),
-        Reply::Beyond => out.extend(b"beyond"),
+    match answer {
+        Answer::Inside => out.extend(b"in"),
+        Answer::Outside(cycle) => put_cycle(out, cycle),
+        Answer::Undecided(cause) => put_open(out, *cause),
+        Answer::Beyond => out.extend(b"beyond"),
     }
 }
 

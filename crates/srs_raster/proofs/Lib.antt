@@ -1,3 +1,4 @@
 pub mod Extremes
 pub mod Rows
 pub mod Spans
+pub mod Moved

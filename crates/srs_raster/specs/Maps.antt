@@ -1,11 +1,12 @@
--- The map of a version.
+-- The map of a tree over a region.
 use Rattle.std.specs.Prelude.{◌≡◌, ℕ, ◌+◌, ◌*◌, ◌≤◌, ℤ, pos, ◌+ℤ◌, ◌-ℤ◌, ◌*ℤ◌, List, [], ◌∷◌, ◌++◌, length, slice_get, Some}
 use Rattle.std.specs.List.{flat_map}
 use Rattle.srs_num.specs.Points.{Point}
 use Rattle.srs_plane.specs.declared.polygons.Vertex.{Vertex}
+use Rattle.srs_plane.specs.Regions.{Area}
 use Rattle.srs_tree.specs.declared.answers.Reply.{Reply}
 use Rattle.srs_tree.specs.declared.answers.Reply.TheVariants.{Inside, Outside, Undecided, Beyond}
-use Rattle.srs_tree.specs.Snapshots.{Snapshot, tree_of}
+use Rattle.srs_tree.specs.Tree.{Tree}
 use Rattle.srs_tree.specs.Answers.{Answers}
 use Rattle.srs_raster.specs.declared.grids.Grid.{Grid}
 use Rattle.srs_raster.specs.declared.frames.Frame.{Frame}
@@ -41,39 +42,39 @@ map_char (Undecided cause) = 63
 map_char Beyond = 46
 
 -- c is the character of column i and row j
-pub record IsShown (v : Snapshot) (g : Grid) (i j c : ℕ) : Type 0 where
+pub record IsShown (Root : Area) (T : Tree) (g : Grid) (i j c : ℕ) : Type 0 where
   pub reply : Reply
-  pub answers : Answers v.region (tree_of v) (map_point g i j) reply
+  pub answers : Answers Root T (map_point g i j) reply
   pub is : c ≡ map_char reply
 
 -- the characters of the first n columns of row j
-pub record IsRow (v : Snapshot) (g : Grid) (j n : ℕ) (row : List ℕ) : Type 0 where
+pub record IsRow (Root : Area) (T : Tree) (g : Grid) (j n : ℕ) (row : List ℕ) : Type 0 where
   pub width : length row ≡ n
-  pub each : (i c : ℕ) → slice_get row i ≡ Some c → IsShown v g i j c
+  pub each : (i c : ℕ) → slice_get row i ≡ Some c → IsShown Root T g i j c
 
 -- the first n rows
-pub record AreRows (v : Snapshot) (g : Grid) (n : ℕ) (rows : List (List ℕ)) : Type 0 where
+pub record AreRows (Root : Area) (T : Tree) (g : Grid) (n : ℕ) (rows : List (List ℕ)) : Type 0 where
   pub height : length rows ≡ n
-  pub each : (j : ℕ) (row : List ℕ) → slice_get rows j ≡ Some row → IsRow v g j g.width row
+  pub each : (j : ℕ) (row : List ℕ) → slice_get rows j ≡ Some row → IsRow Root T g j g.width row
 
 -- a row and the line's end, the byte 10
 abbrev pub line_of : List ℕ → List ℕ
 line_of row = row ++ 10 ∷ []
 
 -- the text `after` is `before` with the line of row j
-pub record HasRow (v : Snapshot) (g : Grid) (j : ℕ) (before after : List ℕ) : Type 0 where
+pub record HasRow (Root : Area) (T : Tree) (g : Grid) (j : ℕ) (before after : List ℕ) : Type 0 where
   pub row : List ℕ
-  pub is_row : IsRow v g j g.width row
+  pub is_row : IsRow Root T g j g.width row
   pub is : after ≡ before ++ line_of row
 
 -- the text of the rows
-pub record IsText (v : Snapshot) (g : Grid) (n : ℕ) (text : List ℕ) : Type 0 where
+pub record IsText (Root : Area) (T : Tree) (g : Grid) (n : ℕ) (text : List ℕ) : Type 0 where
   pub rows : List (List ℕ)
-  pub are_rows : AreRows v g n rows
+  pub are_rows : AreRows Root T g n rows
   pub is : text ≡ flat_map line_of rows
 
--- the map of v over its vertices with w columns and h rows
-pub record IsMapText (v : Snapshot) (vs : List Vertex) (w h : ℕ) (text : List ℕ) : Type 0 where
+-- the map of the tree T of the region Root, over the polygon of these vertices, with w columns and h rows
+pub record IsMapText (Root : Area) (T : Tree) (vs : List Vertex) (w h : ℕ) (text : List ℕ) : Type 0 where
   pub frame : Frame
   pub is_frame : IsFrame vs frame
-  pub rows : IsText v (record { frame = frame; width = w; height = h }) h text
+  pub rows : IsText Root T (record { frame = frame; width = w; height = h }) h text

@@ -1,6 +1,7 @@
 // The text of a map.
 ghost use Rattle.std.specs.Prelude.{◌≡◌, ◌≤◌, ◌<◌, [], ◌∷◌, ◌++◌, IfOk, OnOk};
 ghost use Rattle.srs_plane.specs.Polygons.{IsPolygon, region_of};
+ghost use Rattle.srs_tree.specs.Snapshots.{tree_of};
 ghost use Rattle.srs_tree.specs.Answers.{reply_of};
 ghost use Rattle.srs_raster.specs.Maps.{map_char, IsGrid, HasRow, IsText, IsMapText};
 
@@ -28,7 +29,7 @@ pub fn map_text(
     requires rows { (1 ≤ h) × (h ≤ 200) }
     requires polygon { IsPolygon vs.now }
     requires region { v.now.region ≡ region_of vs.now }
-    ensures { IfOk result (λ text. IsMapText v.now vs.now w h text) }
+    ensures { IfOk result (λ text. IsMapText v.now.region (tree_of v.now) vs.now w h text) }
 {
     let grid = Grid {
         frame: frame_of(vs),
@@ -49,7 +50,7 @@ fn drawn<L: Ledger>(
     requires name { blank.name ≡ L.name }
     requires parts { blank.parts ≡ L.parts }
     requires some { 0 < blank.parts }
-    ensures { IfOk result (λ text. IsText v.now grid.now grid.now.height text) }
+    ensures { IfOk result (λ text. IsText v.now.region (tree_of v.now) grid.now grid.now.height text) }
 {
     let mut steps = Steps::<L>::new(blank);
     let mut text = Bytes::new(alloc);
@@ -69,7 +70,7 @@ fn put_row<L: Ledger>(
 ) -> Result<(), NoMemory>
     requires grid { IsGrid grid.now }
     requires row { j < grid.now.height }
-    ensures { OnOk result (HasRow v.now grid.now j text.old text.new) }
+    ensures { OnOk result (HasRow v.now.region (tree_of v.now) grid.now j text.old text.new) }
 {
     for i in 0..grid.width {
         put(text, shown(v.locate(&grid.point(i, j), steps)))?;

@@ -3,3 +3,5 @@ pub mod Telling
 pub mod Completing
 pub mod RoundSteps
 pub mod Certifying
+pub mod Drawing
+pub mod Replying

@@ -1,10 +1,12 @@
 -- What three words spell.
-use Rattle.std.proofs.Common.{◌≡◌, ℕ, List, pos, Option, Some, None}
+use Rattle.std.proofs.Common.{◌≡◌, ℕ, List, [], ◌∷◌, pos, sym, subst, ◌∙◌, Option, Some, None}
 use Rattle.std.specs.Prelude.{IfNone}
 use Rattle.srs_text.specs.Spelling.{IsNumber}
 use Rattle.srs_text.proofs.Spellings.{number_once}
 use Rattle.srs_path.specs.Views.{Budget, IsBudget}
-use Rattle.srs_tool.specs.Words.{SpellsLimits}
+use Rattle.srs_tool.specs.declared.words.Command.{Command}
+use Rattle.srs_tool.specs.declared.words.Command.TheVariants.{Certify, Check, Map, Ask}
+use Rattle.srs_tool.specs.Words.{SpellsLimits, SpellsSide, SpellsSize, AsksMap, Asks, IsInRange}
 
 pub same_count : (text : List ℕ) (m n : ℕ) → IsNumber text (pos m) → IsNumber text (pos n) → m ≡ n
 same_count text m n h k = let e : pos m ≡ pos n = number_once text (pos m) (pos n) h k in cc
@@ -25,3 +27,24 @@ spelled_budget depth cells wits d c w b hd hc hw s =
 pub none_by_range : {P : Type 0} {Q : Budget → Type 0} (r : Option Budget) → IfNone r (P → ⊥) → ((b : Budget) → Q b → P) → IfNone r ((b : Budget) → Q b → ⊥)
 none_by_range None out within = λ b s. out (within b s)
 none_by_range (Some x) out within = tt
+
+-- what is asked for has its numbers in their ranges
+pub asked_range : (words : List (List ℕ)) (command : Command) → Asks words command → IsInRange command
+asked_range words (Certify limits) asked = tt
+asked_range words Check asked = tt
+asked_range words (Map w h) asked = (asked.size.columns_are.1, asked.size.rows_are.1)
+asked_range words Ask asked = tt
+
+pub last_two : (x y d e c f : List ℕ) → ◌≡◌ {A = List (List ℕ)} (x ∷ d ∷ c ∷ []) (y ∷ e ∷ f ∷ []) → (d ≡ e) × (c ≡ f)
+last_two x y d e c f same = (cc, cc)
+
+-- no map is asked for, where the words behind `map` spell no size
+pub no_map : {X : Type 0} (words : List (List ℕ)) (x columns rows : List ℕ) (r : Option X) → words ≡ x ∷ columns ∷ rows ∷ []
+    → IfNone r ((w h : ℕ) → SpellsSize columns rows w h → ⊥) → IfNone r ((w h : ℕ) → AsksMap words w h → ⊥)
+no_map words x columns rows None is out = λ w h asked.
+    let t = last_two _ x asked.columns columns asked.rows rows (sym asked.split ∙ is) in
+    out w h (record {
+      columns_are = subst (λ (word : List ℕ). SpellsSide word w) t.0 asked.size.columns_are;
+      rows_are = subst (λ (word : List ℕ). SpellsSide word h) t.1 asked.size.rows_are;
+    })
+no_map words x columns rows (Some size) is out = tt

@@ -4,9 +4,9 @@ ghost use Rattle.srs_file.specs.Grammar.{SpellsCertificate};
 ghost use Rattle.srs_tool.specs.declared.words.Command.TheVariants.{Check};
 ghost use Rattle.srs_tool.specs.Ends.{Tells};
 
-use crate::say::{refuse, say};
+use crate::say::{blame, refuse, say};
 use crate::status::Status;
-use crate::verdicts::{bad, valid};
+use crate::verdicts::valid;
 use crate::words::Command;
 use srs_check::Checked;
 use srs_file::{Cert, FileErr, read_cert};
@@ -32,16 +32,12 @@ fn answer<K: Sink>(alloc: Global, input: &[u8], cert: &Cert, sink: &mut K) -> St
     ensures told { Tells Check input.now result (K.got sink.old) (K.got sink.new) (K.faults sink.old) (K.faults sink.new) }
     ensures memory { result ≡ Status.NoMemory → sink.new ≡ sink.old }
 {
-    let _input = input;
     match srs_check::check(alloc, cert) {
         Ok(Checked::Valid(counts)) => match valid(alloc, &counts) {
             Ok(text) => say(Status::Done, sink, text.as_slice()),
             Err(_) => Status::NoMemory,
         },
-        Ok(Checked::Bad(line, fault)) => match bad(alloc, line, &fault) {
-            Ok(text) => say(Status::Bad, sink, text.as_slice()),
-            Err(_) => Status::NoMemory,
-        },
+        Ok(Checked::Bad(line, fault)) => blame(alloc, &Command::Check, input, line, &fault, sink),
         Err(_) => Status::NoMemory,
     }
 }

@@ -3,12 +3,14 @@ ghost use Rattle.std.specs.Prelude.{◌≡◌, ◌≢◌, ◌⊎◌, List, ℕ, 
 ghost use Rattle.std.specs.Io.KnownBytes.{Appends};
 ghost use Rattle.srs_text.specs.Ends.{Rose, AppendsFront};
 ghost use Rattle.srs_tool.specs.declared.words.Command.{Command};
-ghost use Rattle.srs_tool.specs.Words.{Asks, longest_input};
+ghost use Rattle.srs_tool.specs.Words.{Asks, IsInRange, longest_input};
 ghost use Rattle.srs_tool.specs.Output.{refused_long, EndsWell};
 ghost use Rattle.srs_tool.specs.Ends.{Completes, StopsShort, Overruns, IsGoodRun, AnswersFor, BreaksFor, IsOverlong, Tells};
 
+use crate::ask::ask;
 use crate::certify::certify;
 use crate::check::check;
+use crate::map::draw;
 use crate::say::say;
 use crate::status::Status;
 use crate::words::{Command, command_of};
@@ -21,10 +23,12 @@ use std::alloc::Global;
 /// a polygon, and its certificate was written, which lists the plan of its region. The leaves of the plan partition the
 /// region; each point of a cell that is inside is finite, and at each point of one that is outside the printed cycle
 /// comes back. `check`: the bytes are the text of a certificate, each node of which proves itself, and so the same holds
-/// of its leaves. At `Bad` of `check` what was written names the first node that doesn't, and its fault. At `Refused`
-/// the bytes are no input of the command, and what was written names the first slip and its line. A good input of at
-/// most 2^20 bytes, or 2^27 for `check`, ends well or for want of memory, unless an end fails. After a refusal the
-/// source has lost what was taken from it; at `NoMemory` nothing was written.
+/// of its leaves. `map`: the same, and what was written is its map; each character is that of the answer at its point,
+/// over the certificate's own events. At `Bad` of `check` and `map` what was written names the first node that doesn't
+/// prove itself, and its fault. At `Refused` the bytes are no input of the command, and what was written names the first
+/// slip and its line. A good input of at most 2^20 bytes, or 2^27 where a certificate is read, ends well or for want of
+/// memory, unless an end fails. After a refusal the source has lost what was taken from it; at `NoMemory` nothing was
+/// written.
 pub fn plain<S: Source, K: Sink>(
     alloc: Global,
     words: &[String],
@@ -66,6 +70,7 @@ fn read_and_answer<S: Source, K: Sink>(
     source: &mut S,
     sink: &mut K,
 ) -> Status
+    requires { IsInRange command.now }
     ensures other { result ≢ Status.Usage }
     ensures done { result ≡ Status.Done →
         AnswersFor command.now Status.Done (S.left source.old) (S.left source.new) (K.got sink.old) (K.got sink.new) }
@@ -96,18 +101,21 @@ fn limit_of(command: &Command) -> u64
 {
     match command {
         Command::Certify(_) => 1 << 20,
-        Command::Check => 1 << 27,
+        Command::Check | Command::Map(_, _) | Command::Ask => 1 << 27,
     }
 }
 
 // Answers for an input that was read to its end.
 fn answer<K: Sink>(alloc: Global, command: &Command, input: &[u8], sink: &mut K) -> Status
-    requires { length input.now ≤ longest_input command.now }
+    requires range { IsInRange command.now }
+    requires short { length input.now ≤ longest_input command.now }
     ensures told { Tells command.now input.now result (K.got sink.old) (K.got sink.new) (K.faults sink.old) (K.faults sink.new) }
     ensures memory { result ≡ Status.NoMemory → sink.new ≡ sink.old }
 {
     match command {
         Command::Certify(limits) => certify(alloc, limits, input, sink),
         Command::Check => check(alloc, input, sink),
+        Command::Map(columns, rows) => draw(alloc, *columns, *rows, input, sink),
+        Command::Ask => ask(alloc, input, sink),
     }
 }

@@ -13,7 +13,7 @@ const NEVER: i64 = -1;
 const CYCLE_ONE: &str = "polygon 3\nge -2 -1 4\nge -1 -2 4\nge -1 -1 4\nend\n";
 
 // Words, an input, and what is written.
-type Row = (&'static str, &'static str, &'static str);
+pub(crate) type Row = (&'static str, &'static str, &'static str);
 
 // Polygons that are one cell: small ones, with and without their edges.
 const CERTIFIED: [Row; 4] = [
@@ -364,7 +364,7 @@ const REFUSED: [Row; 27] = [
 ];
 
 // Words in no form.
-const UNKNOWN: [&str; 16] = [
+const UNKNOWN: [&str; 29] = [
     "certify 0 1 0",
     "certify 0 1 16385",
     "certify 0 1 016",
@@ -379,6 +379,19 @@ const UNKNOWN: [&str; 16] = [
     "Certify 0 1 16",
     "check 1",
     "Check",
+    "map",
+    "map 4",
+    "map 0 4",
+    "map 4 0",
+    "map 201 4",
+    "map 4 201",
+    "map 04 4",
+    "map 4 4 4",
+    "map -4 4",
+    "Map 4 4",
+    "ask 1",
+    "Ask",
+    "ask map 4 4",
     "",
     "--help",
 ];
@@ -441,7 +454,11 @@ fn agrees(alloc: Global, row: &Row, status: Status) -> Result<bool, Fail> {
 }
 
 // The place of the first row that isn't so; none where all are.
-fn first_other(alloc: Global, rows: &[Row], status: Status) -> Result<Option<usize>, Fail> {
+pub(crate) fn first_other(
+    alloc: Global,
+    rows: &[Row],
+    status: Status,
+) -> Result<Option<usize>, Fail> {
     for (i, row) in rows.iter().enumerate() {
         if !agrees(alloc, row, status)? {
             return Ok(Some(i));

@@ -3,7 +3,7 @@ ghost use Rattle.std.specs.Prelude.{◌≡◌, ◌↔◌, IsTrue, List, ℕ, [],
 ghost use Rattle.srs_text.specs.Spelling.{IsNumber};
 ghost use Rattle.srs_path.specs.Views.{Budget};
 ghost use Rattle.srs_tool.specs.declared.words.Command.{Command};
-ghost use Rattle.srs_tool.specs.Words.{SpellsLimits, AsksCertify, Asks};
+ghost use Rattle.srs_tool.specs.Words.{SpellsLimits, AsksCertify, SpellsSide, SpellsSize, AsksMap, Asks};
 
 use srs_path::Limits;
 use srs_text::number;
@@ -15,6 +15,10 @@ pub enum Command {
     Certify(Limits),
     /// To check the certificate that is read.
     Check,
+    /// To check the certificate that is read, and print its map: so many columns and rows, each 1 to 200.
+    Map(u32, u32),
+    /// To check the certificate that is read, and answer the questions behind it.
+    Ask,
 }
 
 /// The command that the words ask for, where they are in one of the forms that the program knows.
@@ -22,8 +26,14 @@ pub fn command_of(words: &[String]) -> Option<Command>
     ensures some { IfSome result (Asks (map string_bytes words.now)) }
     ensures none { IfNone result ((command : Command) → Asks (map string_bytes words.now) command → ⊥) }
 {
-    if asks_check(words) {
+    if is_alone(words, "check") {
         return Some(Command::Check);
+    }
+    if is_alone(words, "ask") {
+        return Some(Command::Ask);
+    }
+    if let Some((columns, rows)) = map_size(words) {
+        return Some(Command::Map(columns, rows));
     }
     match certify_limits(words) {
         Some(limits) => Some(Command::Certify(limits)),
@@ -31,20 +41,61 @@ pub fn command_of(words: &[String]) -> Option<Command>
     }
 }
 
-// Whether the one word is `check`.
-fn asks_check(words: &[String]) -> bool
-    ensures { IsTrue result ↔ (map string_bytes words.now ≡ codes "check" ∷ []) }
+// Whether the one word is this one.
+fn is_alone(words: &[String], name: &str) -> bool
+    ensures { IsTrue result ↔ (map string_bytes words.now ≡ name.now ∷ []) }
 {
     let [word] = words else {
         return false;
     };
-    is_check(word.as_str())
+    is_word(word.as_str(), name)
 }
 
-fn is_check(word: &str) -> bool
-    ensures { IsTrue result ↔ (word.now ≡ codes "check") }
+fn is_word(word: &str, name: &str) -> bool
+    ensures { IsTrue result ↔ (word.now ≡ name.now) }
 {
-    word == "check"
+    word == name
+}
+
+// The numbers of columns and rows behind `map`.
+fn map_size(words: &[String]) -> Option<(u32, u32)>
+    ensures some { IfSome result (λ size. AsksMap (map string_bytes words.now) size.0 size.1) }
+    ensures none { IfNone result ((w h : ℕ) → AsksMap (map string_bytes words.now) w h → ⊥) }
+{
+    let [command, columns, rows] = words else {
+        return None;
+    };
+    if !is_word(command.as_str(), "map") {
+        return None;
+    }
+    size_of(columns.as_bytes(), rows.as_bytes())
+}
+
+// The numbers of columns and rows that two words spell.
+fn size_of(columns: &[u8], rows: &[u8]) -> Option<(u32, u32)>
+    ensures some { IfSome result (λ size. SpellsSize columns.now rows.now size.0 size.1) }
+    ensures none { IfNone result ((w h : ℕ) → SpellsSize columns.now rows.now w h → ⊥) }
+{
+    let width = match side_of(columns) {
+        Some(n) => n,
+        None => return None,
+    };
+    match side_of(rows) {
+        Some(height) => Some((width, height)),
+        None => None,
+    }
+}
+
+// A number from 1 to 200.
+fn side_of(text: &[u8]) -> Option<u32>
+    ensures some { IfSome result (SpellsSide text.now) }
+    ensures none { IfNone result ((n : ℕ) → SpellsSide text.now n → ⊥) }
+{
+    let n = number(text)?;
+    if n < 1 || n > 200 {
+        return None;
+    }
+    Some(n as u32)
 }
 
 // The limits behind `certify`.
@@ -55,16 +106,10 @@ fn certify_limits(words: &[String]) -> Option<Limits>
     let [command, depth, cells, wits] = words else {
         return None;
     };
-    if !is_certify(command.as_str()) {
+    if !is_word(command.as_str(), "certify") {
         return None;
     }
     limits_of(depth.as_bytes(), cells.as_bytes(), wits.as_bytes())
-}
-
-fn is_certify(word: &str) -> bool
-    ensures { IsTrue result ↔ (word.now ≡ codes "certify") }
-{
-    word == "certify"
 }
 
 // The limits that three words spell.

@@ -1,9 +1,9 @@
 // The answer at a point, and the answers that a region meets.
-ghost use Rattle.std.specs.Prelude.{◌≡◌, IfOk};
-ghost use Rattle.srs_tree.specs.Answers.{reply_of, kind_of, no_kind, both};
+ghost use Rattle.std.specs.Prelude.{◌≡◌, IfOk, Some};
+ghost use Rattle.srs_tree.specs.Answers.{reply_of, reply_by, kind_of, no_kind, both};
 
 use srs_num::NoMemory;
-use srs_path::{Cause, Cycle};
+use srs_path::{Cause, Cycle, Outcome};
 use std::alloc::Global;
 
 /// What a version says of a point: it is in a cell that is inside, or outside with this cycle; its cell is undecided,
@@ -25,7 +25,19 @@ pub enum Reply {
     Beyond,
 }
 
-impl Answer<'_> {
+impl<'v> Answer<'v> {
+    /// The answer of a leaf with this outcome. A leaf has no cut.
+    pub fn of(outcome: &'v Outcome) -> Answer<'v>
+        ensures { reply_of result ≡ reply_by (Some outcome.now) }
+    {
+        match outcome {
+            Outcome::Inside(_) => Answer::Inside,
+            Outcome::Outside(cycle) => Answer::Outside(cycle),
+            Outcome::Cut(_) => Answer::Undecided(None),
+            Outcome::Left(cause) => Answer::Undecided(Some(*cause)),
+        }
+    }
+
     /// What it says. An `Err` is want of memory.
     pub fn reply(&self, alloc: Global) -> Result<Reply, NoMemory>
         ensures { IfOk result (λ reply. reply ≡ reply_of self.now) }
@@ -35,6 +47,20 @@ impl Answer<'_> {
             Answer::Outside(cycle) => Ok(Reply::Outside(cycle.copy(alloc)?)),
             Answer::Undecided(cause) => Ok(Reply::Undecided(*cause)),
             Answer::Beyond => Ok(Reply::Beyond),
+        }
+    }
+}
+
+impl Reply {
+    /// The same as an answer, with the cycle lent.
+    pub fn lent(&self) -> Answer<'_>
+        ensures { reply_of result ≡ self.now }
+    {
+        match self {
+            Reply::Inside => Answer::Inside,
+            Reply::Outside(cycle) => Answer::Outside(cycle),
+            Reply::Undecided(cause) => Answer::Undecided(*cause),
+            Reply::Beyond => Answer::Beyond,
         }
     }
 }

@@ -122,12 +122,7 @@ impl Node {
         let Some(outcome) = self.outcome() else {
             return Answer::Undecided(None);
         };
-        match outcome.as_ref() {
-            Outcome::Inside(_) => Answer::Inside,
-            Outcome::Outside(cycle) => Answer::Outside(cycle),
-            Outcome::Cut(_) => Answer::Undecided(None),
-            Outcome::Left(cause) => Answer::Undecided(Some(*cause)),
-        }
+        Answer::of(outcome.as_ref())
     }
 
     // The cell as one that waits.

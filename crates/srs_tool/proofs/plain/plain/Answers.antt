@@ -1,5 +1,9 @@
+use Rattle.srs_tool.proofs.WordLemmas.{asked_range}
 use Rattle.srs_tool.proofs.Completing.{completes}
 use Rattle.srs_tool.proofs.plain.plain.Goals as goal
+
+pub read_and_answer-requires : goal.read_and_answer-requires
+read_and_answer-requires g c = asked_range _ _ c.in-Some.ensures.some
 
 pub returns-in-Some-clause-complete : goal.returns-in-Some-clause-complete
 returns-in-Some-clause-complete g c good =

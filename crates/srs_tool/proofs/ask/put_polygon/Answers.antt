@@ -1,0 +1,10 @@
+use Rattle.std.proofs.Common.{refl}
+use Rattle.srs_tree.specs.declared.queries.Query.TheVariants.{Polygon as AsksPolygon}
+use Rattle.srs_tree.specs.declared.queries.Said.TheVariants.{Polygon}
+use Rattle.srs_tool.proofs.Replying.{adds_said, met_by_events}
+use Rattle.srs_tool.proofs.ask.put_polygon.Goals as goal
+
+pub returns : goal.returns
+returns c =
+    adds_said c.args.cert.now (AsksPolygon c.args.q.now) (Polygon c.in_ok-met.met) c.args.text.now c.put.new.text c.put.result
+    (c.in_ok-met.met, refl, met_by_events c.args.cert.now c.args.version.now c.requires.built c.args.q.now c.in_ok-met.met c.in_ok-met.ensures) c.put.ensures
