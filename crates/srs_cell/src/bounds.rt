@@ -111,7 +111,7 @@ fn is_lower(form: &Form, corner: &Corner, other: &Corner) -> bool
 }
 
 // Whether n / d is less than m / e: by products where 128 bits hold them.
-fn is_less(n: i128, d: i128, m: i128, e: i128) -> bool
+pub(crate) fn is_less(n: i128, d: i128, m: i128, e: i128) -> bool
     requires d { pos 1 ≤ℤ d }
     requires e { pos 1 ≤ℤ e }
     ensures { IsTrue result ↔ (n *ℤ e) <ℤ (m *ℤ d) }

@@ -3,12 +3,14 @@ ghost use Rattle.std.specs.Prelude.{◌≡◌, ◌<◌, ◌↔◌, [], ◌∷◌
 ghost use Rattle.srs_plane.specs.Regions.{IsIn, IsInHalf, HasPoint};
 ghost use Rattle.srs_num.specs.Points.{Point};
 ghost use Rattle.srs_map.specs.Step.{IsNarrow};
-ghost use Rattle.srs_cell.specs.Corners.{AreCorners, IsCell};
+ghost use Rattle.srs_cell.specs.Corners.{boxed, AreCorners, IsCell};
+ghost use Rattle.srs_cell.specs.Cutting.{IsSection};
 ghost use Rattle.srs_cell.specs.Floors.{form_of, AreLeastFloors};
 
 use crate::corners::{corners_of, corners_with};
+use crate::ends::Section;
 use crate::floors::{CornerList, Floors};
-use srs_num::{Corner, NoMemory, V2, sum};
+use srs_num::{Corner, Form, NoMemory, V2, sum};
 use srs_plane::{Half, Kind, Region};
 use std::alloc::Global;
 use std::marker::Model;
@@ -71,13 +73,35 @@ impl Cell {
         })
     }
 
-    // The cell with the half appended, from the corners of this one. `None` exactly where it has no point.
-    pub(crate) fn part(&self, alloc: Global, half: Half) -> Result<Option<Cell>, NoMemory>
-        requires { length self.now < 80 }
+    // The line within the region.
+    pub(crate) fn section(&self, line: &Form) -> Section
+        ensures line { result.line ≡ line.now }
+        ensures section { IsSection (boxed self.now) result }
+    {
+        Section::of(&self.region, self.region.len(), line)
+    }
+
+    // The cell with the half appended, whose section this is, from the corners of this one. `None` exactly where it has no
+    // point.
+    pub(crate) fn part(
+        &self,
+        alloc: Global,
+        half: Half,
+        section: &Section,
+    ) -> Result<Option<Cell>, NoMemory>
+        requires few { length self.now < 80 }
+        requires line { section.now.line ≡ half.form }
+        requires section { IsSection (boxed self.now) section.now }
         ensures part { IfOk result (λ found. MatchOption found (HasPoint (self.now ++ half ∷ []) → ⊥) (λ cell. cell ≡ self.now ++ half ∷ [])) }
         ensures point { IfOk result (λ found. IsSome found → HasPoint (self.now ++ half ∷ [])) }
     {
-        let Some(corners) = corners_with(alloc, &self.region, self.corners.as_slice(), &half)?
+        let Some(corners) = corners_with(
+            alloc,
+            &self.region,
+            self.corners.as_slice(),
+            &half,
+            section,
+        )?
         else {
             return Ok(None);
         };

@@ -5,6 +5,7 @@ mod bounds;
 mod cells;
 mod corners;
 mod divisions;
+mod doubles;
 mod ends;
 mod floors;
 mod moves;
