@@ -130,10 +130,9 @@ impl Search {
     }
 
     // Adds a witness, which stands for the one on the other side too.
-    fn add(&mut self, v: V2) -> Result<(), Stop>
+    fn add(&mut self, v: V2) -> Result<(), NoMemory>
         requires { IsNarrow v }
-        ensures ok { OnOk result (Adds self.old.found.keys self.old.origin v self.new.found.keys self.new.origin self.old.waiting.items self.new.waiting.items) }
-        ensures stop { (R : Area) (W : ℕ) (ws : List V2) (met : Bool) → IfErr result (IsStop R W ws met) }
+        ensures { OnOk result (Adds self.old.found.keys self.old.origin v self.new.found.keys self.new.origin self.old.waiting.items self.new.waiting.items) }
     {
         let Some(u) = upper(v) else {
             self.origin = true;
@@ -142,11 +141,11 @@ impl Search {
         match self.found.insert(u) {
             Ok(true) => {}
             Ok(false) => return Ok(()),
-            Err(_) => return Err(Stop::NoMemory),
+            Err(_) => return Err(NoMemory),
         }
         match self.waiting.push(u) {
             Ok(()) => Ok(()),
-            Err(_) => Err(Stop::NoMemory),
+            Err(_) => Err(NoMemory),
         }
     }
 
@@ -160,8 +159,12 @@ impl Search {
         ensures units { OnOk result (HasUnits self.new.found.keys self.new.origin) }
         ensures stop { (R : Area) → IfErr result (IsStop R bound self.new.found.keys self.new.origin) }
     {
-        self.add(V2 { a: 1, b: 0 })?;
-        self.add(V2 { a: 0, b: 1 })?;
+        let Ok(()) = self.add(V2 { a: 1, b: 0 }) else {
+            return Err(Stop::NoMemory);
+        };
+        let Ok(()) = self.add(V2 { a: 0, b: 1 }) else {
+            return Err(Stop::NoMemory);
+        };
         self.within(bound)
     }
 
@@ -184,7 +187,9 @@ impl Search {
             return Err(Stop::Wide(v));
         }
         for k in 0..n {
-            self.add(pair_at(w, span, k))?;
+            let Ok(()) = self.add(pair_at(w, span, k)) else {
+                return Err(Stop::NoMemory);
+            };
         }
         self.within(bound)
     }

@@ -1,6 +1,5 @@
-use Rattle.std.proofs.Common.{rules, arith, subst, sym}
+use Rattle.std.proofs.Common.{arith, subst, sym}
 use Rattle.srs_path.specs.Witnesses.{IsWitness}
-use Rattle.srs_wit.specs.Search.{IsStop}
 use Rattle.srs_wit.proofs.Adding.{on_ok}
 use Rattle.srs_wit.proofs.Following.{adding_more, all_added, witness_at, wide_shown}
 use Rattle.srs_wit.proofs.closure.Search.add_links.Goals as goal
@@ -19,7 +18,7 @@ loop-k-preserved c =
     let h : IsWitness c.args.cell.now c.pair_at.result = subst (IsWitness c.args.cell.now) (sym c.pair_at.ensures)
     (witness_at c.args.cell.now c.args.w c.links-span.result.low c.links-span.result.high c.count-n.result c.links-span.ensures c.count-n.ensures c.requires.witness c.loop-k.k (omega arith)) in
     adding_more c.args.cell.now c.args.bound c.args.self.now.found.keys c.args.self.now.origin c.args.w c.links-span.result.low c.args.self.now.waiting.items c.loop-k.k
-    c.loop-k.self.found.keys c.loop-k.self.origin c.add.new.self.found.keys c.add.new.self.origin c.loop-k.self.waiting.items c.add.new.self.waiting.items c.pair_at.result c.loop-k.invariant h c.pair_at.ensures c.in_ok-add.ensures.ok
+    c.loop-k.self.found.keys c.loop-k.self.origin c.add.new.self.found.keys c.add.new.self.origin c.loop-k.self.waiting.items c.add.new.self.waiting.items c.pair_at.result c.loop-k.invariant h c.pair_at.ensures c.in-Ok.ensures
 
 pub returns-clause-closed : goal.returns-clause-closed
 returns-clause-closed c =
@@ -29,9 +28,3 @@ returns-clause-closed c =
 
 pub returns-in-Some-clause-stop : goal.returns-in-Some-clause-stop
 returns-in-Some-clause-stop c = wide_shown c.args.cell.now c.args.w c.links-span.result.low c.links-span.result.high _ c.links-span.ensures c.requires.witness c.in-Some.ensures
-
-pub returns-in_err-add-clause-stop : goal.returns-in_err-add-clause-stop
-returns-in_err-add-clause-stop c =
-    let s = c.add.new.self in
-    let e : IsStop c.args.cell.now c.args.bound s.found.keys s.origin c.in_err-add.field-0.0 = c.in_err-add.ensures.stop c.args.cell.now c.args.bound s.found.keys s.origin in
-    search rules
