@@ -1,8 +1,9 @@
 // Cells, and how they are made.
-ghost use Rattle.std.specs.Prelude.{◌≡◌, ◌<◌, ◌↔◌, [], ◌∷◌, ◌++◌, length, IsTrue, IfOk, IsSome, MatchOption, All};
+ghost use Rattle.std.specs.Prelude.{◌≡◌, ◌<◌, ◌↔◌, [], ◌∷◌, ◌++◌, length, IsTrue, IfOk, IsSome, MatchOption, All, pos, ◌≤ℤ◌};
 ghost use Rattle.srs_plane.specs.Regions.{IsIn, IsInHalf, HasPoint};
-ghost use Rattle.srs_num.specs.Points.{Point};
+ghost use Rattle.srs_num.specs.Points.{Point, value};
 ghost use Rattle.srs_map.specs.Step.{IsNarrow};
+ghost use Rattle.srs_cell.specs.Hull.{IsInHalves};
 ghost use Rattle.srs_cell.specs.Corners.{boxed, AreCorners, IsCell};
 ghost use Rattle.srs_cell.specs.Cutting.{IsSection};
 ghost use Rattle.srs_cell.specs.Floors.{form_of, AreLeastFloors};
@@ -145,19 +146,21 @@ fn inhabited(region: Region, corners: Vec<Corner>) -> Option<Cell>
     })
 }
 
-// Whether the corner is in the half.
+// Whether the corner is in the half, where it is in it with its edge.
 fn is_in_half(half: &Half, corner: &Corner) -> bool
+    requires { pos 0 ≤ℤ value half.now.form corner.now }
     ensures { IsTrue result ↔ IsInHalf half.now corner.now }
 {
-    let value = half.form.at_corner(corner);
     match half.kind {
-        Kind::Ge => value >= 0,
-        Kind::Gt => value > 0,
+        Kind::Ge => true,
+        Kind::Gt => half.form.at_corner(corner) > 0,
     }
 }
 
-// Whether the corner is in each half of the region.
+// Whether the corner, which is in the halves with their edges, is in each half of the region: it looks at the open edges
+// alone.
 pub(crate) fn is_inside(region: &Region, corner: &Corner) -> bool
+    requires { IsInHalves (boxed region.now) corner.now }
     ensures { IsTrue result ↔ All (λ h. IsInHalf h corner.now) region.now }
 {
     for i in 0..region.len() {
