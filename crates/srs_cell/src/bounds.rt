@@ -111,7 +111,7 @@ fn is_lower(form: &Form, corner: &Corner, other: &Corner) -> bool
 }
 
 // Whether n / d is less than m / e: by products where 128 bits hold them.
-pub(crate) fn is_less(n: i128, d: i128, m: i128, e: i128) -> bool
+fn is_less(n: i128, d: i128, m: i128, e: i128) -> bool
     requires d { pos 1 ≤ℤ d }
     requires e { pos 1 ≤ℤ e }
     ensures { IsTrue result ↔ (n *ℤ e) <ℤ (m *ℤ d) }
@@ -123,7 +123,7 @@ pub(crate) fn is_less(n: i128, d: i128, m: i128, e: i128) -> bool
 }
 
 // Whether all four numbers are at most 2^62 in magnitude, so that 128 bits hold their products.
-fn are_half(n: i128, d: i128, m: i128, e: i128) -> bool
+pub(crate) fn are_half(n: i128, d: i128, m: i128, e: i128) -> bool
     ensures { IsTrue result → IsWithin (2 ^ 62) n × IsWithin (2 ^ 62) d × IsWithin (2 ^ 62) m × IsWithin (2 ^ 62) e }
 {
     let left = -HALF <= n && n <= HALF && -HALF <= d && d <= HALF;
@@ -131,7 +131,7 @@ fn are_half(n: i128, d: i128, m: i128, e: i128) -> bool
 }
 
 // Whether n * e is less than m * d.
-fn is_less_product(n: i128, d: i128, m: i128, e: i128) -> bool
+pub(crate) fn is_less_product(n: i128, d: i128, m: i128, e: i128) -> bool
     requires n { IsWithin (2 ^ 62) n }
     requires d { IsWithin (2 ^ 62) d }
     requires m { IsWithin (2 ^ 62) m }

@@ -1,20 +1,21 @@
 // Corners that are the same point.
-ghost use Rattle.std.specs.Prelude.{◌≡◌, ◌↔◌, ◌++◌, [], ◌∷◌, IsTrue, OnOk, pos, ◌*ℤ◌, ◌≤ℤ◌};
+ghost use Rattle.std.specs.Prelude.{◌≡◌, ◌↔◌, ◌++◌, [], ◌∷◌, IsTrue, OnOk, ◌*ℤ◌};
 ghost use Rattle.srs_cell.specs.Doubles.{IsSamePoint, HasDouble, IsJoined};
 
-use crate::bounds::is_less;
+use crate::bounds::{are_half, is_less_product};
 use srs_num::{Corner, NoMemory};
 
-// Whether n / d and m / e are the same number.
+// Whether n / d and m / e are seen to be the same number: they are, for numbers whose products 128 bits hold.
 fn is_same(n: i128, d: i128, m: i128, e: i128) -> bool
-    requires d { pos 1 ≤ℤ d }
-    requires e { pos 1 ≤ℤ e }
     ensures { IsTrue result → n *ℤ e ≡ m *ℤ d }
 {
-    !is_less(n, d, m, e) && !is_less(m, e, n, d)
+    if !are_half(n, d, m, e) {
+        return false;
+    }
+    !is_less_product(n, d, m, e) && !is_less_product(m, e, n, d)
 }
 
-// Whether both corners are the same point.
+// Whether both corners are seen to be the same point.
 fn is_same_point(corner: &Corner, other: &Corner) -> bool
     ensures { IsTrue result → IsSamePoint corner.now other.now }
 {
@@ -23,7 +24,7 @@ fn is_same_point(corner: &Corner, other: &Corner) -> bool
     is_same(p, d, r, e) && is_same(q, d, s, e)
 }
 
-// Whether one of the corners is the same point as the other one.
+// Whether one of the corners is seen to be the same point as the other one.
 fn has_double(corners: &[Corner], other: &Corner) -> bool
     ensures { IsTrue result → HasDouble corners.now other.now }
 {
@@ -45,7 +46,7 @@ pub(crate) fn add_corner(corners: &mut Vec<Corner>, corner: Corner) -> Result<()
     }
 }
 
-// Appends the corner, unless one of the corners is the same point.
+// Appends the corner, unless one of the corners is seen to be the same point.
 pub(crate) fn join_corner(corners: &mut Vec<Corner>, corner: Corner) -> Result<(), NoMemory>
     ensures { OnOk result (IsJoined corners.old.items corner corners.new.items) }
 {
