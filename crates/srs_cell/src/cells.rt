@@ -118,6 +118,7 @@ impl Cell {
     }
 
     // The least floors of the value of a pair, and of the value negated, at the cell's points.
+    #[inline(always)]
     pub(crate) fn floors(&self, w: V2) -> Floors
         requires { IsNarrow w }
         ensures { AreLeastFloors self.now (form_of w) result }

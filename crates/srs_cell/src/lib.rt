@@ -12,7 +12,7 @@ mod moves;
 mod sharing;
 mod sides;
 
-pub use bounds::Bound;
+pub use bounds::{Bound, Quotient};
 pub use cells::Cell;
 pub use divisions::Parts;
 pub use moves::Span;

@@ -130,6 +130,7 @@ impl Search {
     }
 
     // Adds a witness, which stands for the one on the other side too.
+    #[inline(always)]
     fn add(&mut self, v: V2) -> Result<(), NoMemory>
         requires { IsNarrow v }
         ensures { OnOk result (Adds self.old.found.keys self.old.origin v self.new.found.keys self.new.origin self.old.waiting.items self.new.waiting.items) }
