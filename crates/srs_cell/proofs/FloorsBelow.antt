@@ -84,6 +84,19 @@ module _ (m : ℕ) (f : LinearForm) (cs : List Point) where
       back_range = l.back.range;
     }
 
+-- the floors at the first corner
+pub floors_first : (m : ℕ) (f : LinearForm) (cs : List Point) (M : ℕ) → All (IsPointWithin M) cs → (c : Point) → 0 < length cs → c ≡ get_or cs 0 c
+    → (n d : ℤ) (floors : Floors) → n ≡ value f c → d ≡ c.d → AreFloorsOf m n d floors → AreFloorsBelow m f cs (take 1 cs) floors
+floors_first m f cs M sized c lt read n d floors en ed h =
+    floors_more m f cs M sized 0 c lt read n d floors floors en ed (floors_begun m f cs c n d floors (0, lt, sym read) en ed h)
+    (record { ahead = same n floors.ahead h.ahead h.ahead_range; back = same (neg_ℤ n) floors.back h.back h.back_range })
+  where
+    least : (a : ℤ) → a ≤ℤ a
+    least a = omega (arith, linear)
+
+    same : (n k : ℤ) → IsFloor n d k → IsWithin m k → IsLesserFloor m n d k k
+    same n k f r = record { not_above = f.not_above; not_more = least k; taken = inl refl; range = r }
+
 pub floors_all : (m : ℕ) (f : LinearForm) (cs : List Point) (i : ℕ) (floors : Floors) → length cs ≤ i → AreFloorsBelow m f cs (take i cs) floors → AreFloorsBelow m f cs cs floors
 floors_all m f cs i floors h b = subst (λ es. AreFloorsBelow m f cs es floors) (take_all i cs h) b
 

@@ -12,7 +12,7 @@ use Rattle.srs_num.proofs.Identities.{value-combine, value-depth, value-opposite
 use Rattle.srs_plane.specs.declared.halves.Kind.{Kind}
 use Rattle.srs_plane.specs.declared.halves.Kind.TheVariants.{Ge, Gt}
 use Rattle.srs_plane.specs.Regions.{Area, Asks, IsInHalf}
-use Rattle.srs_cell.specs.Hull.{IsAbove}
+use Rattle.srs_cell.specs.Hull.{IsInHalves, IsAbove}
 use Rattle.srs_cell.specs.Corners.{boxed, IsCell}
 use Rattle.srs_cell.specs.Bounds.{IsInfimum, IsSupremum, Takes, IsLow, IsHigh, IsBoundSized, IsLeastCorner, IsLeastSum}
 use Rattle.srs_cell.specs.declared.bounds.Bound.{Bound}
@@ -20,6 +20,16 @@ use Rattle.srs_cell.proofs.Areas.{boxed_halves, in_boxed}
 use Rattle.srs_cell.proofs.Least.{sized_among}
 use Rattle.srs_cell.proofs.Reaching.{reaches}
 use Rattle.srs_cell.proofs.Extremes.{low_bound, attained_core}
+
+-- a sum of corners is in the halves with their edges
+pub least_in_halves : (R : Area) (cs : List Point) → All (IsInHalves (boxed R)) cs → (f : LinearForm) (c total : Point) → IsLeastSum f cs cs c total → IsInHalves (boxed R) total
+least_in_halves R cs inside f c total l = record {
+  deep = deeper total.d l.is_point;
+  each = λ i d lt. l.above (get_or (boxed R) i d) (λ j e lt'. (inside j e lt').each i d lt);
+}
+  where
+    deeper : (d : ℤ) → pos 1 ≤ℤ d → pos 0 <ℤ d
+    deeper d h = omega (arith, linear)
 
 module _ (R : Area) (cs : List Point) (sample : Point) (cell : IsCell R cs sample) (f : LinearForm) (c : Point) (corner : IsLeastCorner f cs c) where
   -- how far a form is above its value at c

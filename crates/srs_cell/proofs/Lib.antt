@@ -16,3 +16,4 @@ pub mod LeastFloors
 pub mod OneSided
 pub mod Lessening
 pub mod FloorsBelow
+pub mod Joining

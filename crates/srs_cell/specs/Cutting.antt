@@ -1,8 +1,9 @@
 -- Cutting the corners of some halves by a form.
 use Rattle.std.specs.Prelude.{◌≡◌, ◌≤◌, ◌+◌, ◌^◌, ℕ, pos, ◌≤ℤ◌, ◌<ℤ◌, List, [], ◌∷◌, ◌++◌, All, length, Option, MatchOption}
-use Rattle.srs_num.specs.Points.{Point, LinearForm, value, IsPointWithin}
+use Rattle.srs_num.specs.Points.{Point, LinearForm, value, opposite, IsPointWithin}
 use Rattle.srs_num.specs.Lines.{meet}
 use Rattle.srs_cell.specs.Hull.{IsInHalves, IsAbove, IsBelow, IsHull}
+use Rattle.srs_cell.specs.declared.ends.Section.{Section}
 use Rattle.srs_cell.specs.declared.corners.Remains.{Remains}
 use Rattle.srs_cell.specs.declared.corners.Remains.TheVariants.{Whole, Nothing, Part}
 
@@ -22,6 +23,11 @@ pub record IsEndAt (g : LinearForm) (hs : List LinearForm) (c : Point) : Type 0 
 -- the first end of the line of g within the halves, if one bounds it that way
 abbrev pub IsFirstEnd : LinearForm → List LinearForm → Option Point → Type 0
 IsFirstEnd g hs end = MatchOption end (All (λ h. (meet h g).d ≤ℤ pos 0) hs) (IsEndAt g hs)
+
+-- the two ends of a line within the halves: the second is the first one of the opposite line
+pub record IsSection (hs : List LinearForm) (s : Section) : Type 0 where
+  pub first : IsFirstEnd s.line hs s.first
+  pub second : IsFirstEnd (opposite s.line) hs s.second
 
 -- us are those of the corners cs with g at least 0, and `below` are the others
 pub record IsKept (g : LinearForm) (cs us : List Point) : Type 0 where

@@ -6,3 +6,4 @@ pub mod Moves
 pub mod Sides
 pub mod Parts
 pub mod Floors
+pub mod Doubles

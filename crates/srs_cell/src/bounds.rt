@@ -2,7 +2,7 @@
 ghost use Rattle.std.specs.Prelude.{◌≡◌, ◌≤◌, ◌^◌, ◌↔◌, IsTrue, All, Contains, MatchOption, length, pos, ◌*ℤ◌, ◌≤ℤ◌, ◌<ℤ◌};
 ghost use Rattle.srs_num.specs.Points.{Point, value, IsNear, IsWithin, IsPointWithin};
 ghost use Rattle.srs_plane.specs.Regions.{IsIn};
-ghost use Rattle.srs_cell.specs.Bounds.{IsLow, IsHigh, IsBoundSized, IsLower, IsLeastCorner, IsLeastSum, Takes};
+ghost use Rattle.srs_cell.specs.Bounds.{IsInfimum, IsLow, IsHigh, IsBoundSized, IsLower, IsLeastCorner, IsLeastSum, Takes};
 ghost use Rattle.srs_cell.specs.Floors.{IsLeastFloor};
 
 use crate::Cell;
@@ -20,7 +20,28 @@ pub struct Bound {
     pub attained: bool,
 }
 
+/// The number `num / den`, with `den` at least 1. The fraction isn't always reduced.
+#[derive(Clone, Copy, Debug, PartialEq, Eq, Drop)]
+pub struct Quotient {
+    pub num: i128,
+    pub den: i128,
+}
+
 impl Cell {
+    /// The infimum of the form over the points of the cell. It takes no memory, and goes over the at most 84 corners once.
+    pub fn infimum(&self, f: &Form) -> Quotient
+        ensures positive { pos 1 ≤ℤ result.den }
+        ensures infimum { IsInfimum self.now f.now result.num result.den }
+        ensures num_range { IsWithin (2 ^ 117) result.num }
+        ensures den_range { IsWithin (2 ^ 77) result.den }
+    {
+        let least = least_corner(f, self.corners());
+        Quotient {
+            num: value_at(f, &least),
+            den: depth(&least),
+        }
+    }
+
     /// The infimum of the form over the points of the cell, and whether a point takes it. It takes no memory: it goes
     /// over the at most 84 corners twice and over the at most 80 halves once. All points of a cell are near, which bounds
     /// the value of a form of bounded numbers.
@@ -111,6 +132,7 @@ fn is_lower(form: &Form, corner: &Corner, other: &Corner) -> bool
 }
 
 // Whether n / d is less than m / e: by products where 128 bits hold them.
+#[inline(always)]
 fn is_less(n: i128, d: i128, m: i128, e: i128) -> bool
     requires d { pos 1 ≤ℤ d }
     requires e { pos 1 ≤ℤ e }
@@ -123,7 +145,7 @@ fn is_less(n: i128, d: i128, m: i128, e: i128) -> bool
 }
 
 // Whether all four numbers are at most 2^62 in magnitude, so that 128 bits hold their products.
-fn are_half(n: i128, d: i128, m: i128, e: i128) -> bool
+pub(crate) fn are_half(n: i128, d: i128, m: i128, e: i128) -> bool
     ensures { IsTrue result → IsWithin (2 ^ 62) n × IsWithin (2 ^ 62) d × IsWithin (2 ^ 62) m × IsWithin (2 ^ 62) e }
 {
     let left = -HALF <= n && n <= HALF && -HALF <= d && d <= HALF;
@@ -131,7 +153,7 @@ fn are_half(n: i128, d: i128, m: i128, e: i128) -> bool
 }
 
 // Whether n * e is less than m * d.
-fn is_less_product(n: i128, d: i128, m: i128, e: i128) -> bool
+pub(crate) fn is_less_product(n: i128, d: i128, m: i128, e: i128) -> bool
     requires n { IsWithin (2 ^ 62) n }
     requires d { IsWithin (2 ^ 62) d }
     requires m { IsWithin (2 ^ 62) m }

@@ -1,14 +1,17 @@
 // Cells, and how they are made.
-ghost use Rattle.std.specs.Prelude.{◌≡◌, ◌<◌, ◌↔◌, [], ◌∷◌, ◌++◌, length, IsTrue, IfOk, IsSome, MatchOption, All};
+ghost use Rattle.std.specs.Prelude.{◌≡◌, ◌<◌, ◌↔◌, [], ◌∷◌, ◌++◌, length, IsTrue, IfOk, IsSome, MatchOption, All, pos, ◌≤ℤ◌};
 ghost use Rattle.srs_plane.specs.Regions.{IsIn, IsInHalf, HasPoint};
-ghost use Rattle.srs_num.specs.Points.{Point};
+ghost use Rattle.srs_num.specs.Points.{Point, value};
 ghost use Rattle.srs_map.specs.Step.{IsNarrow};
-ghost use Rattle.srs_cell.specs.Corners.{AreCorners, IsCell};
+ghost use Rattle.srs_cell.specs.Hull.{IsInHalves};
+ghost use Rattle.srs_cell.specs.Corners.{boxed, AreCorners, IsCell};
+ghost use Rattle.srs_cell.specs.Cutting.{IsSection};
 ghost use Rattle.srs_cell.specs.Floors.{form_of, AreLeastFloors};
 
 use crate::corners::{corners_of, corners_with};
+use crate::ends::Section;
 use crate::floors::{CornerList, Floors};
-use srs_num::{Corner, NoMemory, V2, sum};
+use srs_num::{Corner, Form, NoMemory, V2, sum};
 use srs_plane::{Half, Kind, Region};
 use std::alloc::Global;
 use std::marker::Model;
@@ -71,13 +74,35 @@ impl Cell {
         })
     }
 
-    // The cell with the half appended, from the corners of this one. `None` exactly where it has no point.
-    pub(crate) fn part(&self, alloc: Global, half: Half) -> Result<Option<Cell>, NoMemory>
-        requires { length self.now < 80 }
+    // The line within the region.
+    pub(crate) fn section(&self, line: &Form) -> Section
+        ensures line { result.line ≡ line.now }
+        ensures section { IsSection (boxed self.now) result }
+    {
+        Section::of(&self.region, self.region.len(), line)
+    }
+
+    // The cell with the half appended, whose section this is, from the corners of this one. `None` exactly where it has no
+    // point.
+    pub(crate) fn part(
+        &self,
+        alloc: Global,
+        half: Half,
+        section: &Section,
+    ) -> Result<Option<Cell>, NoMemory>
+        requires few { length self.now < 80 }
+        requires line { section.now.line ≡ half.form }
+        requires section { IsSection (boxed self.now) section.now }
         ensures part { IfOk result (λ found. MatchOption found (HasPoint (self.now ++ half ∷ []) → ⊥) (λ cell. cell ≡ self.now ++ half ∷ [])) }
         ensures point { IfOk result (λ found. IsSome found → HasPoint (self.now ++ half ∷ [])) }
     {
-        let Some(corners) = corners_with(alloc, &self.region, self.corners.as_slice(), &half)?
+        let Some(corners) = corners_with(
+            alloc,
+            &self.region,
+            self.corners.as_slice(),
+            &half,
+            section,
+        )?
         else {
             return Ok(None);
         };
@@ -93,6 +118,7 @@ impl Cell {
     }
 
     // The least floors of the value of a pair, and of the value negated, at the cell's points.
+    #[inline(always)]
     pub(crate) fn floors(&self, w: V2) -> Floors
         requires { IsNarrow w }
         ensures { AreLeastFloors self.now (form_of w) result }
@@ -121,19 +147,21 @@ fn inhabited(region: Region, corners: Vec<Corner>) -> Option<Cell>
     })
 }
 
-// Whether the corner is in the half.
+// Whether the corner is in the half, where it is in it with its edge.
 fn is_in_half(half: &Half, corner: &Corner) -> bool
+    requires { pos 0 ≤ℤ value half.now.form corner.now }
     ensures { IsTrue result ↔ IsInHalf half.now corner.now }
 {
-    let value = half.form.at_corner(corner);
     match half.kind {
-        Kind::Ge => value >= 0,
-        Kind::Gt => value > 0,
+        Kind::Ge => true,
+        Kind::Gt => half.form.at_corner(corner) > 0,
     }
 }
 
-// Whether the corner is in each half of the region.
+// Whether the corner, which is in the halves with their edges, is in each half of the region: it looks at the open edges
+// alone.
 pub(crate) fn is_inside(region: &Region, corner: &Corner) -> bool
+    requires { IsInHalves (boxed region.now) corner.now }
     ensures { IsTrue result ↔ All (λ h. IsInHalf h corner.now) region.now }
 {
     for i in 0..region.len() {

@@ -1,12 +1,13 @@
 // Cutting the corners of a region by a form.
-ghost use Rattle.std.specs.Prelude.{◌≡◌, ◌≤◌, ◌^◌, ◌↔◌, ◌+◌, ◌∷◌, ◌++◌, [], IsTrue, IfOk, OnOk, MatchOption, All, length, take};
+ghost use Rattle.std.specs.Prelude.{◌≡◌, ◌≤◌, ◌^◌, ◌↔◌, ◌+◌, ◌∷◌, ◌++◌, [], IsTrue, IfOk, MatchOption, All, length, take};
 ghost use Rattle.srs_num.specs.Points.{Point, IsNear, IsPointWithin};
 ghost use Rattle.srs_plane.specs.Regions.{IsIn};
 ghost use Rattle.srs_cell.specs.Hull.{IsInHalves, IsAbove, IsBelow, IsHull};
 ghost use Rattle.srs_cell.specs.Corners.{box, boxed, AreCorners};
-ghost use Rattle.srs_cell.specs.Cutting.{IsKept, IsLeft};
+ghost use Rattle.srs_cell.specs.Cutting.{IsKept, IsLeft, IsSection};
 
-use crate::ends::{line_end, side};
+use crate::doubles::{add_corner, join_corner};
+use crate::ends::{Section, side};
 use srs_num::{Corner, Form, NoMemory, crossing_of};
 use srs_plane::{Half, Region};
 use std::alloc::Global;
@@ -46,21 +47,13 @@ fn all_below(corners: &[Corner], line: &Form) -> bool
     true
 }
 
-// Appends the corner.
-fn add_corner(corners: &mut Vec<Corner>, corner: Corner) -> Result<(), NoMemory>
-    ensures { OnOk result (corners.new.items ≡ corners.old.items ++ corner ∷ []) }
-{
-    match corners.push(corner) {
-        Ok(()) => Ok(()),
-        Err(_) => Err(NoMemory),
-    }
-}
-
-// The corners at which the line's form is at least 0.
+// The corners at which the line's form is at least 0. There is room for those of a part: where a corner is lost, two come.
 fn keep_above(alloc: Global, corners: &[Corner], line: &Form) -> Result<Vec<Corner>, NoMemory>
     ensures { IfOk result (λ kept. IsKept line.now corners.now kept.items) }
 {
-    let mut kept = Vec::new(alloc);
+    let Ok(mut kept) = Vec::with_capacity(alloc, corners.len() + 1) else {
+        return Err(NoMemory);
+    };
     for corner in corners {
         if line.at_corner(corner) >= 0 {
             add_corner(&mut kept, *corner)?;
@@ -69,36 +62,38 @@ fn keep_above(alloc: Global, corners: &[Corner], line: &Form) -> Result<Vec<Corn
     Ok(kept)
 }
 
-// What the line's form leaves of the region's first `count` halves, whose corners these are.
-// It goes over the corners, and over the halves once for each end of the cut. It takes memory only for a part.
+// What the section's line leaves of the region's first `count` halves, whose corners these are. It takes memory only for a
+// part.
 pub(crate) fn clip_corners(
     alloc: Global,
     region: &Region,
     count: u32,
     corners: &[Corner],
-    line: &Form,
+    section: &Section,
 ) -> Result<Remains, NoMemory>
     requires count { count ≤ length region.now }
     requires hull { IsHull (boxed (take count region.now)) corners.now }
     requires sized { All (IsPointWithin (2 ^ 77)) corners.now }
-    ensures { IfOk result (IsLeft (boxed (take count region.now)) corners.now line.now) }
+    requires section { IsSection (boxed (take count region.now)) section.now }
+    ensures { IfOk result (IsLeft (boxed (take count region.now)) corners.now section.now.line) }
 {
-    if all_above(corners, line) {
+    let _region = region;
+    let _count = count;
+    if all_above(corners, &section.line) {
         return Ok(Remains::Whole);
     }
-    if all_below(corners, line) {
+    if all_below(corners, &section.line) {
         return Ok(Remains::Nothing);
     }
-    let mut part = keep_above(alloc, corners, line)?;
-    let Some(first) = line_end(region, count, line) else {
+    let mut part = keep_above(alloc, corners, &section.line)?;
+    let Some(first) = section.first else {
         unreachable!()
     };
-    let turned = line.opposite();
-    let Some(second) = line_end(region, count, &turned) else {
+    let Some(second) = section.second else {
         unreachable!()
     };
-    add_corner(&mut part, first)?;
-    add_corner(&mut part, second)?;
+    join_corner(&mut part, first)?;
+    join_corner(&mut part, second)?;
     Ok(Remains::Part(part))
 }
 
@@ -123,11 +118,10 @@ fn box_corners(alloc: Global) -> Result<Vec<Corner>, NoMemory>
 pub(crate) fn copied(alloc: Global, corners: &[Corner]) -> Result<Vec<Corner>, NoMemory>
     ensures { IfOk result (λ copy. copy.items ≡ corners.now) }
 {
-    let mut copy = Vec::new(alloc);
-    for corner in corners {
-        add_corner(&mut copy, *corner)?;
+    match Vec::from_slice(alloc, corners) {
+        Ok(copy) => Ok(copy),
+        Err(_) => Err(NoMemory),
     }
-    Ok(copy)
 }
 
 // The corners of the region's halves, where open edges count as closed. `None`: these have no point.
@@ -141,7 +135,8 @@ pub(crate) fn corners_of(alloc: Global, region: &Region) -> Result<Option<Vec<Co
     let mut corners = box_corners(alloc)?;
     for i in 0..count {
         let half = region.half(i);
-        match clip_corners(alloc, region, i, &corners, &half.form)? {
+        let section = Section::of(region, i, &half.form);
+        match clip_corners(alloc, region, i, &corners, &section)? {
             Remains::Whole => {}
             Remains::Nothing => return Ok(None),
             Remains::Part(part) => corners = part,
@@ -156,12 +151,16 @@ pub(crate) fn corners_with(
     region: &Region,
     corners: &[Corner],
     half: &Half,
+    section: &Section,
 ) -> Result<Option<Vec<Corner>>, NoMemory>
-    requires { AreCorners region.now corners.now }
+    requires corners { AreCorners region.now corners.now }
+    requires line { section.now.line ≡ half.now.form }
+    requires section { IsSection (boxed region.now) section.now }
     ensures { IfOk result
         (λ found. MatchOption found (IsBelow half.now.form corners.now) (λ more. AreCorners (region.now ++ half.now ∷ []) more.items)) }
 {
-    match clip_corners(alloc, region, region.len(), corners, &half.form)? {
+    let _half = half;
+    match clip_corners(alloc, region, region.len(), corners, section)? {
         Remains::Whole => Ok(Some(copied(alloc, corners)?)),
         Remains::Nothing => Ok(None),
         Remains::Part(part) => Ok(Some(part)),

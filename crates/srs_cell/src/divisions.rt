@@ -27,18 +27,19 @@ impl Cell {
         requires { length self.now < 80 }
         ensures { IfOk result (AreParts self.now h.now) }
     {
+        let section = self.section(h);
         let ge_side = Half {
             form: *h,
             kind: Kind::Ge,
         };
-        let Some(above) = self.part(alloc, ge_side)? else {
+        let Some(above) = self.part(alloc, ge_side, &section)? else {
             return Ok(Parts::AllLt);
         };
         let lt_side = Half {
             form: h.opposite(),
             kind: Kind::Gt,
         };
-        let Some(below) = self.part(alloc, lt_side)? else {
+        let Some(below) = self.part(alloc, lt_side, &section.turned())? else {
             return Ok(Parts::AllGe);
         };
         Ok(Parts::Both(above, below))

@@ -1,8 +1,8 @@
 // The ends of the part of a line that is in a region.
 ghost use Rattle.std.specs.Prelude.{◌≡◌, ◌<◌, ◌≤◌, List, [], ◌∷◌, ◌++◌, length, take};
-ghost use Rattle.srs_num.specs.Points.{LinearForm, IsWithin};
+ghost use Rattle.srs_num.specs.Points.{LinearForm, opposite, IsWithin};
 ghost use Rattle.srs_cell.specs.Corners.{side, box, boxed};
-ghost use Rattle.srs_cell.specs.Cutting.{IsFirstEnd};
+ghost use Rattle.srs_cell.specs.Cutting.{IsFirstEnd, IsSection};
 
 use srs_num::{Corner, Form, crossing_of, turn};
 use srs_plane::Region;
@@ -45,7 +45,7 @@ fn box_end(line: &Form) -> Option<Corner>
 }
 
 // The first end of the line within the box and the first `count` halves of the region. That of the opposite form is the other end.
-pub(crate) fn line_end(region: &Region, count: u32, line: &Form) -> Option<Corner>
+fn line_end(region: &Region, count: u32, line: &Form) -> Option<Corner>
     requires { count ≤ length region.now }
     ensures { IsFirstEnd line.now (boxed (take count region.now)) result }
 {
@@ -55,4 +55,39 @@ pub(crate) fn line_end(region: &Region, count: u32, line: &Form) -> Option<Corne
         end = nearer(end, &half.form, line);
     }
     end
+}
+
+// A line and its two ends within some halves, each where one of the halves bounds it that way.
+#[derive(Drop)]
+pub(crate) struct Section {
+    pub(crate) line: Form,
+    pub(crate) first: Option<Corner>,
+    pub(crate) second: Option<Corner>,
+}
+
+impl Section {
+    // The line within the box and the first `count` halves of the region.
+    pub(crate) fn of(region: &Region, count: u32, line: &Form) -> Section
+        requires { count ≤ length region.now }
+        ensures line { result.line ≡ line.now }
+        ensures section { IsSection (boxed (take count region.now)) result }
+    {
+        Section {
+            line: *line,
+            first: line_end(region, count, line),
+            second: line_end(region, count, &line.opposite()),
+        }
+    }
+
+    // The opposite line within the same halves.
+    pub(crate) fn turned(&self) -> Section
+        ensures line { result.line ≡ opposite self.now.line }
+        ensures section { (hs : List LinearForm) → IsSection hs self.now → IsSection hs result }
+    {
+        Section {
+            line: self.line.opposite(),
+            first: self.second,
+            second: self.first,
+        }
+    }
 }

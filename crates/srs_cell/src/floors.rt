@@ -96,9 +96,10 @@ fn short_floors(corners: &[Corner], w: V2) -> Floors
     requires b { IsWithin (2 ^ 20) w.b }
     ensures { AreFloorsBelow (2 ^ 23) (form_of w) corners.now corners.now result }
 {
-    let first = corners[0];
-    let mut floors = Floors::of(short_value(&first, w), short_depth(&first));
-    for corner in corners {
+    let first = &corners[0];
+    let mut floors = Floors::of(short_value(first, w), short_depth(first));
+    for i in 1..corners.len() {
+        let corner = &corners[i];
         floors = floors.lessened(short_value(corner, w), short_depth(corner));
     }
     floors

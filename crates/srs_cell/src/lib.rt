@@ -5,13 +5,14 @@ mod bounds;
 mod cells;
 mod corners;
 mod divisions;
+mod doubles;
 mod ends;
 mod floors;
 mod moves;
 mod sharing;
 mod sides;
 
-pub use bounds::Bound;
+pub use bounds::{Bound, Quotient};
 pub use cells::Cell;
 pub use divisions::Parts;
 pub use moves::Span;

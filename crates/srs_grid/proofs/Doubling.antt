@@ -5,7 +5,7 @@ use Rattle.srs_num.specs.Points.{LinearForm, value}
 use Rattle.srs_num.proofs.Linear.{linear}
 use Rattle.srs_num.proofs.Ring.{v, lit, ◌⊗◌, ring}
 use Rattle.srs_plane.specs.Regions.{Area}
-use Rattle.srs_cell.specs.Bounds.{IsInfimum, IsSupremum, Takes, IsLow, IsHigh}
+use Rattle.srs_cell.specs.Bounds.{IsInfimum, IsSupremum, Takes, IsHigh}
 use Rattle.srs_cell.specs.declared.bounds.Bound.{Bound}
 use Rattle.srs_grid.specs.declared.mixed.Mixed.{Mixed}
 use Rattle.srs_grid.specs.declared.spans.Span.{Span}
@@ -86,12 +86,12 @@ pub record IsSame (n d : ℤ) (y : Mixed) : Type 0 where
   pub den : y.den ≡ d
   pub num : numerator y ≡ n
 
-pub span_of : (R : Area) (f : LinearForm) (a b : Bound) (low high : Mixed) → IsLow R f a → IsHigh R f b → IsSame a.num a.den low → IsSame b.num b.den high
+pub span_of : (R : Area) (f : LinearForm) (n d : ℤ) (b : Bound) (low high : Mixed) → IsInfimum R f n d → IsHigh R f b → IsSame n d low → IsSame b.num b.den high
     → IsSpan R f (record { low = low; high = high; attained = b.attained })
-span_of R f a b low high is_low is_high l h = record {
+span_of R f n d b low high is_infimum is_high l h = record {
   low_mixed = l.mixed;
   high_mixed = h.mixed;
-  infimum = rw (l.num, l.den) is_low.infimum;
+  infimum = rw (l.num, l.den) is_infimum;
   supremum = rw (h.num, h.den) is_high.supremum;
   attained = λ on. rw (h.num, h.den) (is_high.attained on);
   all_attained = λ t. is_high.all_attained (rw (h.num, h.den) at t);

@@ -24,7 +24,7 @@ impl Span {
         requires spread { IsSpread cell.now form.now 4 }
         ensures { IsSpan cell.now form.now result }
     {
-        let low = cell.low(form);
+        let low = cell.infimum(form);
         let high = cell.high(form);
         Span {
             low: Mixed::of(low.num, low.den),

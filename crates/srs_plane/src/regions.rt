@@ -68,11 +68,13 @@ impl Region {
         requires { length self.now < 80 }
         ensures { IfOk result (λ region. region ≡ self.now ++ h ∷ []) }
     {
-        let mut halves = copied(alloc, &self.halves)?;
-        match halves.push(h) {
-            Ok(()) => Ok(Region { halves }),
-            Err(_) => Err(NoMemory),
+        let Ok(mut halves) = Vec::with_capacity(alloc, self.halves.len() + 1) else {
+            return Err(NoMemory);
+        };
+        if halves.extend_from_slice(&self.halves).is_err() || halves.push(h).is_err() {
+            return Err(NoMemory);
         }
+        Ok(Region { halves })
     }
 
     /// An equal region.
@@ -112,11 +114,8 @@ fn all_hold<L: Ledger>(halves: &[Half], r: &Pt, steps: &mut Steps<L>) -> bool
 fn copied(alloc: Global, halves: &[Half]) -> Result<Vec<Half>, NoMemory>
     ensures { IfOk result (λ copy. copy.items ≡ halves.now) }
 {
-    let mut copy = Vec::new(alloc);
-    for h in halves {
-        if copy.push(*h).is_err() {
-            return Err(NoMemory);
-        }
+    match Vec::from_slice(alloc, halves) {
+        Ok(copy) => Ok(copy),
+        Err(_) => Err(NoMemory),
     }
-    Ok(copy)
 }

@@ -12,7 +12,7 @@ use srs_graph::Graph;
 use srs_grid::line;
 use srs_num::NoMemory;
 use srs_path::{Cause, Cycle, Finding, Last, Outcome, Why};
-use srs_wit::{WitErr, WitSet, witnesses};
+use srs_wit::{WitSet, small_witnesses};
 use std::alloc::Global;
 
 /// The outcome of the cell, for a bound `w` from 1 to 16384 on its witnesses, where `last` is the limit that is spent.
@@ -38,10 +38,9 @@ fn outcome_of(alloc: Global, cell: &Cell, last: Option<Last>, w: u32) -> Result<
     requires few { w ≤ 16384 }
     ensures { IfOk result (Refines cell.now last w) }
 {
-    match witnesses(alloc, cell, w) {
-        Ok(set) => of_small(alloc, cell, &set, last),
-        Err(WitErr::Large(_)) => Ok(of_large(cell, last)),
-        Err(WitErr::NoMemory) => Err(NoMemory),
+    match small_witnesses(alloc, cell, w)? {
+        Some(set) => of_small(alloc, cell, &set, last),
+        None => Ok(of_large(cell, last)),
     }
 }
 

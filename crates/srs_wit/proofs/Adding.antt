@@ -1,6 +1,6 @@
 -- What one more pair makes of those found.
-use Rattle.std.proofs.Common.{◌≡◌, ◌≢◌, ◌⊎◌, inl, inr, ℕ, zero, suc, ◌^◌, ◌≤◌, List, [], ◌∷◌, ◌++◌, Bool, true, false, IsTrue, arith, ap, subst, sym, ◌∙◌, refl, lit<, pos, append_assoc}
-use Rattle.std.specs.Prelude.{Contains, AllPairs, if◌then◌else◌, not, Result, Ok, Err, IfOk}
+use Rattle.std.proofs.Common.{◌≡◌, ◌≢◌, ◌⊎◌, inl, inr, zero, suc, ◌^◌, ◌≤◌, List, [], ◌∷◌, ◌++◌, Bool, true, false, IsTrue, arith, ap, subst, sym, ◌∙◌, refl, lit<, lit≤, pos, append_assoc, length-append}
+use Rattle.std.specs.Prelude.{Contains, AllPairs, if◌then◌else◌, not, Result, Ok, Err, OnOk, IfOk}
 use Rattle.std.specs.List.{list_any, IsDistinct}
 use Rattle.std.proofs.lemmas.Bool.{false≢true}
 use Rattle.std.proofs.lemmas.List.{append-nil}
@@ -10,13 +10,13 @@ use Rattle.std.proofs.lemmas.Map.Views.{Contains-from_any}
 use Rattle.indexmap.specs.IndexSet.{insert_key}
 use Rattle.srs_num.specs.declared.pairs.V2.{V2}
 use Rattle.srs_num.proofs.Ranges.{within_opposite}
-use Rattle.srs_map.specs.Step.{pair, minus, IsNarrow}
+use Rattle.srs_map.specs.Step.{pair, minus, origin, IsNarrow}
 use Rattle.srs_map.specs.Links.{right, left, up, down}
 use Rattle.srs_plane.specs.Regions.{Area}
 use Rattle.srs_path.specs.Witnesses.{IsWitness, unit}
 use Rattle.srs_path.proofs.WitnessLemmas.{pair_eq, pair-decides}
-use Rattle.srs_wit.specs.Halves.{IsUpperOf, AreNarrow, IsHeld, count_both}
-use Rattle.srs_wit.specs.Search.{AreHalf, AreFound, Adds, Extends, HasUnits}
+use Rattle.srs_wit.specs.Halves.{IsUpperOf, IsHeld, count_both}
+use Rattle.srs_wit.specs.Search.{AreHalf, Adds, Extends, HasUnits}
 use Rattle.srs_wit.proofs.Mirrored.{minus_twice, witness_mirrored}
 
 pub contains_one : (v w : V2) → Contains (v ∷ []) w → w ≡ v
@@ -42,15 +42,15 @@ upper_held ws met v u (h, inl e) c = inl (subst (Contains ws) e c)
 upper_held ws met v u (h, inr e) c = inr (inl (subst (Contains ws) e c))
 
 -- an insertion of u, the upper one of v and -v, by what it answered
-module _ (W : ℕ) (old : List V2) (was : Bool) (v u : V2) (new : List V2) (e : new ≡ insert_key pair_eq old u) (d : IsDistinct pair_eq new) (upper : IsUpperOf v u) where
+module _ (old : List V2) (was : Bool) (v u : V2) (new : List V2) (e : new ≡ insert_key pair_eq old u) (d : IsDistinct pair_eq new) (upper : IsUpperOf v u) where
   different : AllPairs ◌≢◌ new
   different = AllPairs-from_IsDistinct pair-decides new d
 
   by_test : (b : Bool) → list_any (pair_eq u) old ≡ b → new ≡ (if b then old else old ++ u ∷ [])
   by_test b t = e ∙ ap (λ (x : Bool). if x then old else old ++ u ∷ []) t
 
-  pub adds_known : (waited : List V2) → list_any (pair_eq u) old ≡ true → IsNarrow v → count_both old was ≤ W → Adds W old was v new was waited waited
-  adds_known waited t n h =
+  pub adds_known : (waited : List V2) → list_any (pair_eq u) old ≡ true → IsNarrow v → Adds old was v new was waited waited
+  adds_known waited t n =
       let s : new ≡ old = by_test true t in
       record {
         more = [];
@@ -62,7 +62,7 @@ module _ (W : ℕ) (old : List V2) (was : Bool) (v u : V2) (new : List V2) (e : 
         stays = λ h. h;
         different = λ _. different;
         narrow = n;
-        few = subst (λ (x : List V2). count_both x was ≤ W) (sym s) h;
+        few = rw s (omega arith);
       }
 
   module _ (t : list_any (pair_eq u) old ≡ false) where
@@ -75,8 +75,8 @@ module _ (W : ℕ) (old : List V2) (was : Bool) (v u : V2) (new : List V2) (e : 
       | inr x ↦ inr (subst (IsUpperOf v) (sym (contains_one u w x)) upper)
     ]
 
-    pub adds_new : (waited waiting : List V2) → IsNarrow v → count_both new was ≤ W → waiting ≡ waited ++ u ∷ [] → Adds W old was v new was waited waiting
-    adds_new waited waiting n h s = record {
+    pub adds_new : (waited waiting : List V2) → IsNarrow v → waiting ≡ waited ++ u ∷ [] → Adds old was v new was waited waiting
+    adds_new waited waiting n s = record {
       more = u ∷ [];
       is = grown;
       waits = s;
@@ -86,22 +86,25 @@ module _ (W : ℕ) (old : List V2) (was : Bool) (v u : V2) (new : List V2) (e : 
       stays = λ h. h;
       different = λ _. different;
       narrow = n;
-      few = h;
+      few = rw grown (omega (arith, length-append old (u ∷ [])));
     }
 
-    pub new_narrow : AreNarrow old → IsNarrow v → AreNarrow new
-    new_narrow a n w c = elim (others w c) [ inl x ↦ a w x | inr x ↦ upper_narrow v w x n ]
+-- (0, 0) is met
+pub adds_origin : (old : List V2) (was : Bool) (v : V2) (met : Bool) (waited : List V2) → met ≡ true → v ≡ origin → Adds old was v old met waited waited
+adds_origin old was v met waited m e = record {
+  more = [];
+  is = sym (append-nil old);
+  waits = sym (append-nil waited);
+  here = inr (inr (e, m));
+  others = λ w c. inl c;
+  center = λ t. inr e;
+  stays = λ t. m;
+  different = λ d. d;
+  narrow = subst IsNarrow (sym e) (lit≤ tt, lit≤ tt);
+  few = rw m (omega arith);
+}
 
-    pub new_half : (R : Area) → AreHalf R old was → IsWitness R v → IsNarrow v → AreHalf R new was
-    new_half R a h n = record {
-      upper = λ w c. elim (others w c) [ inl x ↦ a.upper w x | inr x ↦ x.0 ];
-      different = different;
-      each = λ w c. elim (others w c) [ inl x ↦ a.each w x | inr x ↦ upper_witness R v w x h ];
-      narrow = new_narrow a.narrow n;
-      center = a.center;
-    }
-
-module _ (R : Area) (W : ℕ) where
+module _ (R : Area) where
   pub none_half : (met : Bool) → met ≡ false → AreHalf R [] met
   none_half met e = record {
     upper = λ w c. absurd (omega (arith, c.1));
@@ -111,25 +114,22 @@ module _ (R : Area) (W : ℕ) where
     center = λ t. absurd (false≢true (sym e ∙ t));
   }
 
-  pub extends_none : (old : List V2) (was : Bool) (waited : List V2) → AreFound R W old was → Extends R W old was old was waited waited
-  extends_none old was waited f = record { more = []; is = sym (append-nil old); waits = sym (append-nil waited); stays = λ h. h; found = f }
+  pub extends_none : (old : List V2) (was : Bool) (waited : List V2) → AreHalf R old was → Extends R old was old was waited waited
+  extends_none old was waited f = record { more = []; is = sym (append-nil old); waits = sym (append-nil waited); stays = λ h. h; half = f }
 
   pub extends_more : (old : List V2) (was : Bool) (now : List V2) (yet : Bool) (new : List V2) (met : Bool) (waited wait waiting : List V2) (v : V2)
-      → Extends R W old was now yet waited wait → IsWitness R v → Adds W now yet v new met wait waiting → Extends R W old was new met waited waiting
+      → Extends R old was now yet waited wait → IsWitness R v → Adds now yet v new met wait waiting → Extends R old was new met waited waiting
   extends_more old was now yet new met waited wait waiting v x h a = record {
     more = x.more ++ a.more;
     is = a.is ∙ ap (λ (y : List V2). y ++ a.more) x.is ∙ append_assoc old x.more a.more;
     waits = a.waits ∙ ap (λ (y : List V2). y ++ a.more) x.waits ∙ append_assoc waited x.more a.more;
     stays = λ t. a.stays (x.stays t);
-    found = record {
-      half = record {
-        upper = λ w c. elim (a.others w c) [ inl y ↦ x.found.half.upper w y | inr y ↦ y.0 ];
-        different = a.different x.found.half.different;
-        each = λ w c. elim (a.others w c) [ inl y ↦ x.found.half.each w y | inr y ↦ upper_witness R v w y h ];
-        narrow = λ w c. elim (a.others w c) [ inl y ↦ x.found.half.narrow w y | inr y ↦ upper_narrow v w y a.narrow ];
-        center = λ t. elim (a.center t) [ inl y ↦ x.found.half.center y | inr y ↦ subst (IsWitness R) y h ];
-      };
-      few = a.few;
+    half = record {
+      upper = λ w c. elim (a.others w c) [ inl y ↦ x.half.upper w y | inr y ↦ y.0 ];
+      different = a.different x.half.different;
+      each = λ w c. elim (a.others w c) [ inl y ↦ x.half.each w y | inr y ↦ upper_witness R v w y h ];
+      narrow = λ w c. elim (a.others w c) [ inl y ↦ x.half.narrow w y | inr y ↦ upper_narrow v w y a.narrow ];
+      center = λ t. elim (a.center t) [ inl y ↦ x.half.center y | inr y ↦ subst (IsWitness R) y h ];
     };
   }
 
@@ -139,36 +139,40 @@ held_longer old was new met more e s w (inl c) = inl (subst (λ (x : List V2). C
 held_longer old was new met more e s w (inr (inl c)) = inr (inl (subst (λ (x : List V2). Contains x (minus w)) (sym e) (Contains-append_left old more (minus w) c)))
 held_longer old was new met more e s w (inr (inr c)) = inr (inr (c.0, s c.1))
 
-pub adds_keep : (W : ℕ) (old : List V2) (was : Bool) (v : V2) (new : List V2) (met : Bool) (waited waiting : List V2) → Adds W old was v new met waited waiting → (w : V2) → IsHeld old was w → IsHeld new met w
-adds_keep W old was v new met waited waiting a w c = held_longer old was new met a.more a.is a.stays w c
+pub adds_keep : (old : List V2) (was : Bool) (v : V2) (new : List V2) (met : Bool) (waited waiting : List V2) → Adds old was v new met waited waiting → (w : V2) → IsHeld old was w → IsHeld new met w
+adds_keep old was v new met waited waiting a w c = held_longer old was new met a.more a.is a.stays w c
 
 -- the units, one after another
-module _ (W : ℕ) (k0 k1 k2 : List V2) (m0 m1 m2 : Bool) (w0 w1 w2 : List V2) (e0 : k0 ≡ []) (g0 : m0 ≡ false) (f0 : w0 ≡ []) where
-  none_yet : count_both k0 m0 ≤ W
-  none_yet = rw (e0, g0) (omega arith)
-
-  pub units_0 : (R : Area) → Extends R W [] false k0 m0 [] w0
+module _ (k0 k1 k2 : List V2) (m0 m1 m2 : Bool) (w0 w1 w2 : List V2) (e0 : k0 ≡ []) (g0 : m0 ≡ false) (f0 : w0 ≡ []) (a1 : Adds k0 m0 (pair (pos 1) (pos 0)) k1 m1 w0 w1) (a2 : Adds k1 m1 (pair (pos 0) (pos 1)) k2 m2 w1 w2) where
+  units_0 : (R : Area) → Extends R [] false k0 m0 [] w0
   units_0 R = record {
     more = [];
     is = e0;
     waits = f0;
     stays = λ t. absurd (false≢true t);
-    found = record { half = subst (λ (x : List V2). AreHalf R x m0) (sym e0) (none_half R W m0 g0); few = none_yet };
+    half = subst (λ (x : List V2). AreHalf R x m0) (sym e0) (none_half R m0 g0);
   }
 
-  module _ (a1 : Adds W k0 m0 (pair (pos 1) (pos 0)) k1 m1 w0 w1) where
-    pub units_1 : (R : Area) → Extends R W [] false k1 m1 [] w1
-    units_1 R = extends_more R W [] false k0 m0 k1 m1 [] w0 w1 _ (units_0 R) (unit right) a1
+  units_1 : (R : Area) → Extends R [] false k1 m1 [] w1
+  units_1 R = extends_more R [] false k0 m0 k1 m1 [] w0 w1 _ (units_0 R) (unit right) a1
 
-    module _ (a2 : Adds W k1 m1 (pair (pos 0) (pos 1)) k2 m2 w1 w2) where
-      pub units_2 : (R : Area) → Extends R W [] false k2 m2 [] w2
-      units_2 R = extends_more R W [] false k1 m1 k2 m2 [] w1 w2 _ (units_1 R) (unit up) a2
+  pub units_2 : (R : Area) → Extends R [] false k2 m2 [] w2
+  units_2 R = extends_more R [] false k1 m1 k2 m2 [] w1 w2 _ (units_1 R) (unit up) a2
 
-      pub has_units : HasUnits k2 m2
-      has_units w right = adds_keep W k1 m1 _ k2 m2 w1 w2 a2 w a1.here
-      has_units w left = mirror_held k2 m2 (pair (pos 1) (pos 0)) (adds_keep W k1 m1 _ k2 m2 w1 w2 a2 (pair (pos 1) (pos 0)) a1.here)
-      has_units w up = a2.here
-      has_units w down = mirror_held k2 m2 (pair (pos 0) (pos 1)) a2.here
+  pub few_units : count_both k2 m2 ≤ 4
+  few_units =
+      let none : count_both k0 m0 ≤ 0 = rw (e0, g0) (omega arith) in
+      omega (arith, none, a1.few, a2.few)
+
+  pub has_units : HasUnits k2 m2
+  has_units w right = adds_keep k1 m1 _ k2 m2 w1 w2 a2 w a1.here
+  has_units w left = mirror_held k2 m2 (pair (pos 1) (pos 0)) (adds_keep k1 m1 _ k2 m2 w1 w2 a2 (pair (pos 1) (pos 0)) a1.here)
+  has_units w up = a2.here
+  has_units w down = mirror_held k2 m2 (pair (pos 0) (pos 1)) a2.here
+
+pub on_ok : {X E : Type 0} (r : Result X E) (Y : Type 0) → Y → OnOk r Y
+on_ok (Ok x) Y y = y
+on_ok (Err e) Y y = tt
 
 pub was_there : (r b : Bool) → r ≡ false → r ≡ not b → b ≡ true
 was_there r true e f = refl

@@ -1,5 +1,5 @@
 -- How the search goes on until all links lead to pairs that were found.
-use Rattle.std.proofs.Common.{◌≡◌, ◌⊎◌, inl, inr, ℕ, ◌^◌, ◌≤◌, Bool, false, List, [], ◌∷◌, ◌++◌, length, ℤ, pos, neg_ℤ, ◌+ℤ◌, ◌*ℤ◌, ◌≤ℤ◌, ◌<ℤ◌, arith, subst, sym, ap, ◌∙◌, lit≤}
+use Rattle.std.proofs.Common.{◌≡◌, ◌⊎◌, inl, inr, ℕ, ◌^◌, ◌<◌, ◌≤◌, Bool, false, List, [], ◌∷◌, ◌++◌, length, ℤ, pos, neg_ℤ, ◌+ℤ◌, ◌*ℤ◌, ◌≤ℤ◌, ◌<ℤ◌, arith, subst, sym, ap, ◌∙◌, lit≤}
 use Rattle.std.specs.Prelude.{Contains}
 use Rattle.std.proofs.lemmas.List.Elements.{Contains-append_left, Contains-append_right, Contains-append_cases, Contains-push}
 use Rattle.srs_num.specs.declared.pairs.V2.{V2}
@@ -14,10 +14,13 @@ use Rattle.srs_map.specs.Links.{IsLink}
 use Rattle.srs_plane.specs.Regions.{Area, IsIn}
 use Rattle.srs_path.specs.Witnesses.{IsWitness, IsSmall}
 use Rattle.srs_path.proofs.WitnessLemmas.{witness_induction, small_from_list}
-use Rattle.srs_wit.specs.Halves.{IsHeld, with_opposites}
-use Rattle.srs_wit.specs.Search.{AreFound, Extends, IsClosedAt, HasUnits, AreAll}
+use Rattle.srs_cell.specs.declared.moves.Span.{Span}
+use Rattle.srs_wit.specs.Listing.{AreTooMany}
+use Rattle.srs_wit.specs.Halves.{IsHeld, with_opposites, count_both}
+use Rattle.srs_wit.specs.Search.{AreHalf, AreFound, IsTooLong, Extends, IsClosedAt, HasUnits, AreAll}
 use Rattle.srs_wit.proofs.Adding.{contains_one, held_longer, mirror_held}
-use Rattle.srs_wit.proofs.BothSides.{held_listed, length-both}
+use Rattle.srs_wit.proofs.BothSides.{held_listed, length-both, shows_many}
+use Rattle.srs_wit.proofs.Following.{long_shows_many}
 use Rattle.srs_wit.proofs.Mirrored.{minus_twice, link_mirrored}
 
 -- each pair that was found waits, or all that it links to is held
@@ -48,18 +51,18 @@ origin_link r v h (inl e) = e ∙ zero_step r h
 origin_link r v h (inr e) = e ∙ ap minus (zero_step r h)
 
 module _ (R : Area) (W : ℕ) where
-  pub closing_none : (ks : List V2) (met : Bool) (waiting : List V2) → Extends R W [] false ks met [] waiting → HasUnits ks met → Closing R W ks met waiting
-  closing_none ks met waiting x u =
+  pub closing_none : (ks : List V2) (met : Bool) (waiting : List V2) → Extends R [] false ks met [] waiting → count_both ks met ≤ W → HasUnits ks met → Closing R W ks met waiting
+  closing_none ks met waiting x few u =
       let e : ks ≡ waiting = x.is ∙ sym x.waits in
       record {
-        found = x.found;
+        found = record { half = x.half; few = few };
         units = u;
         among = λ w c. subst (λ (l : List V2). Contains l w) (sym e) c;
         settled = λ w c. inl (subst (λ (l : List V2). Contains l w) e c);
       }
 
   -- after the links of w, which waited last, were followed
-  module _ (ks : List V2) (was : Bool) (new : List V2) (met : Bool) (waiting rest next : List V2) (w : V2) (e : waiting ≡ rest ++ w ∷ []) (x : Extends R W ks was new met rest next) where
+  module _ (ks : List V2) (was : Bool) (new : List V2) (met : Bool) (waiting rest next : List V2) (w : V2) (e : waiting ≡ rest ++ w ∷ []) (x : Extends R ks was new met rest next) (few : count_both new met ≤ W) where
     keeps : (v : V2) → IsHeld ks was v → IsHeld new met v
     keeps v c = held_longer ks was new met x.more x.is x.stays v c
 
@@ -74,7 +77,7 @@ module _ (R : Area) (W : ℕ) where
 
     pub closing_more : Closing R W ks was waiting → IsClosedAt R new met w → Closing R W new met next
     closing_more c z = record {
-      found = x.found;
+      found = record { half = x.half; few = few };
       units = λ u k. keeps u (c.units u k);
       among = λ v i. elim (Contains-append_cases rest x.more v (subst (λ (l : List V2). Contains l v) x.waits i)) [
         | inl y ↦ stays v (c.among v (waited v y))
@@ -127,3 +130,13 @@ module _ (R : Area) (W : ℕ) where
         held_narrow w (inl c) = a.found.half.narrow w c
         held_narrow w (inr (inl c)) = subst IsNarrow (minus_twice w) (let n = a.found.half.narrow (minus w) c in (within_opposite _ (2 ^ 37) n.0, within_opposite _ (2 ^ 37) n.1))
         held_narrow w (inr (inr c)) = subst IsNarrow (sym c.0) (lit≤ tt, lit≤ tt)
+
+-- too many witnesses are more than a small region has
+pub many_not_small : (R : Area) (W : ℕ) (ws : List V2) → AreTooMany R W ws → IsSmall R W → ⊥
+many_not_small R W ws m s = let few = s.few ws m.witnesses in omega (arith, few, m.many)
+
+pub over_not_small : (R : Area) (W : ℕ) (ks : List V2) (met : Bool) → AreHalf R ks met → W < count_both ks met → IsSmall R W → ⊥
+over_not_small R W ks met h l s = many_not_small R W _ (shows_many R ks met h W l) s
+
+pub long_not_small : (R : Area) (W : ℕ) (w : V2) (span : Span) → IsTooLong R W w span → IsSmall R W → ⊥
+long_not_small R W w span l s = many_not_small R W _ (long_shows_many R W w span l) s

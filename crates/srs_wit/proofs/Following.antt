@@ -1,5 +1,5 @@
 -- How all that one pair links to is added.
-use Rattle.std.proofs.Common.{◌≡◌, ◌≢◌, inl, inr, ℕ, ◌+◌, ◌<◌, ◌≤◌, Bool, List, length, ℤ, pos, ◌-ℤ◌, ◌≤ℤ◌, ◌<ℤ◌, ◌+ℤ◌, neg_ℤ, unsigned_abs, arith, ap, subst, sym, ◌∙◌, get_or}
+use Rattle.std.proofs.Common.{◌≡◌, ◌≢◌, inl, inr, ℕ, ◌+◌, ◌*◌, ◌<◌, ◌≤◌, Bool, List, length, ℤ, pos, ◌-ℤ◌, ◌≤ℤ◌, ◌<ℤ◌, ◌+ℤ◌, neg_ℤ, unsigned_abs, arith, ap, subst, sym, ◌∙◌, get_or}
 use Rattle.std.specs.Prelude.{Contains, AllPairs}
 use Rattle.std.proofs.Math.Decide.{dec_lt}
 use Rattle.std.proofs.lemmas.Int.{ints}
@@ -10,10 +10,11 @@ use Rattle.srs_map.specs.Step.{pair}
 use Rattle.srs_plane.specs.Regions.{Area}
 use Rattle.srs_path.specs.Witnesses.{IsWitness, link}
 use Rattle.srs_cell.specs.Moves.{LinksTo, AreMoves}
-use Rattle.srs_wit.specs.Spans.{IsCount, pair_from, pairs_from}
-use Rattle.srs_wit.specs.Listing.{AreTooMany}
-use Rattle.srs_wit.specs.Halves.{IsHeld}
-use Rattle.srs_wit.specs.Search.{AreFound, Adds, Extends, IsClosedAt}
+use Rattle.srs_cell.specs.declared.moves.Span.{Span}
+use Rattle.srs_wit.specs.Spans.{IsCount, IsWideAmong, pair_from, pairs_from}
+use Rattle.srs_wit.specs.Listing.{AreTooMany, IsTooWide}
+use Rattle.srs_wit.specs.Halves.{IsHeld, count_both}
+use Rattle.srs_wit.specs.Search.{AreFound, IsTooLong, Adds, Extends, IsClosedAt}
 use Rattle.srs_wit.proofs.Adding.{extends_none, extends_more, adds_keep}
 
 -- a link from w leads to a pair that begins with the second entry of w
@@ -31,19 +32,21 @@ place_of low j h = (unsigned_abs (j -ℤ low), omega (arith, ints))
 
 -- the first k pairs of w have been added
 pub record Adding (R : Area) (W : ℕ) (old : List V2) (was : Bool) (w : V2) (low : ℤ) (k : ℕ) (now : List V2) (met : Bool) (waited waiting : List V2) : Type 0 where
-  pub extends : Extends R W old was now met waited waiting
+  pub extends : Extends R old was now met waited waiting
+  pub few : count_both now met ≤ W + 2 * k
   pub done : (j : ℕ) → j < k → IsHeld now met (pair_from w low j)
 
 module _ (R : Area) (W : ℕ) (old : List V2) (was : Bool) (w : V2) (low : ℤ) (waited : List V2) where
   pub adding_none : AreFound R W old was → Adding R W old was w low 0 old was waited waited
-  adding_none f = record { extends = extends_none R W old was waited f; done = λ j h. absurd (omega arith) }
+  adding_none f = record { extends = extends_none R old was waited f.half; few = omega (arith, f.few); done = λ j h. absurd (omega arith) }
 
   pub adding_more : (k : ℕ) (now : List V2) (yet : Bool) (new : List V2) (met : Bool) (wait waiting : List V2) (v : V2)
-      → Adding R W old was w low k now yet waited wait → IsWitness R v → v ≡ pair_from w low k → Adds W now yet v new met wait waiting → Adding R W old was w low (k + 1) new met waited waiting
+      → Adding R W old was w low k now yet waited wait → IsWitness R v → v ≡ pair_from w low k → Adds now yet v new met wait waiting → Adding R W old was w low (k + 1) new met waited waiting
   adding_more k now yet new met wait waiting v a h e s = record {
-    extends = extends_more R W old was now yet new met waited wait waiting v a.extends h s;
+    extends = extends_more R old was now yet new met waited wait waiting v a.extends h s;
+    few = omega (arith, a.few, s.few);
     done = λ j l. elim (dec_lt j k) as (λ _. IsHeld new met (pair_from w low j)) [
-      | yes b ↦ adds_keep W now yet v new met wait waiting s (pair_from w low j) (a.done j b)
+      | yes b ↦ adds_keep now yet v new met wait waiting s (pair_from w low j) (a.done j b)
       | no b ↦ let f : k ≡ j = omega arith in subst (IsHeld new met) (e ∙ ap (pair_from w low) f) s.here
     ];
   }
@@ -88,3 +91,12 @@ module _ (R : Area) (w : V2) (low high : ℤ) (n : ℕ) (m : AreMoves (LinksTo R
 
       each : (v : V2) → Contains (pairs_from w low (W + 1)) v → IsWitness R v
       each v (k, b, e) = subst (IsWitness R) (sym (entry k v (omega (arith, b, long))) ∙ e) (witness_at k (omega (arith, b, long)))
+
+pub long_shows_many : (R : Area) (W : ℕ) (w : V2) (span : Span) → IsTooLong R W w span → AreTooMany R W (pairs_from w span.low (W + 1))
+long_shows_many R W w span l = span_shows_many R w span.low span.high l.count l.moves l.counted l.witness W l.long
+
+-- a wide pair of a witness is a witness
+pub wide_shown : (R : Area) (w : V2) (low high : ℤ) (v : V2) → AreMoves (LinksTo R) w low high → IsWitness R w → IsWideAmong w low high v → IsTooWide R v
+wide_shown R w low high v m h a =
+    let e = m.each a.last a.above a.below in
+    record { witness = subst (IsWitness R) (sym a.is) (link e.0 e.1 e.2 h); wide = a.wide }

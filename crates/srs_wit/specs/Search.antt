@@ -1,11 +1,16 @@
 -- What the search for witnesses finds.
-use Rattle.std.specs.Prelude.{◌≡◌, ◌≢◌, ℕ, ◌≤◌, ◌⊎◌, ◌++◌, Bool, IsTrue, List, Contains, AllPairs}
+use Rattle.std.specs.Prelude.{◌≡◌, ◌≢◌, ℕ, ◌+◌, ◌<◌, ◌≤◌, ◌⊎◌, ◌++◌, Bool, IsTrue, List, Contains, AllPairs, ⊤}
 use Rattle.srs_num.specs.declared.pairs.V2.{V2}
 use Rattle.srs_map.specs.Step.{IsNarrow, origin}
 use Rattle.srs_map.specs.Links.{IsUnit}
 use Rattle.srs_plane.specs.Regions.{Area}
 use Rattle.srs_path.specs.Witnesses.{IsWitness}
-use Rattle.srs_cell.specs.Moves.{LinksTo}
+use Rattle.srs_cell.specs.Moves.{LinksTo, AreMoves}
+use Rattle.srs_cell.specs.declared.moves.Span.{Span}
+use Rattle.srs_wit.specs.declared.closure.Stop.{Stop}
+use Rattle.srs_wit.specs.declared.closure.Stop.TheVariants.{Over, Long, Wide, NoMemory}
+use Rattle.srs_wit.specs.Listing.{IsTooWide}
+use Rattle.srs_wit.specs.Spans.{IsCount}
 use Rattle.srs_wit.specs.Halves.{IsUpper, IsUpperOf, AreNarrow, IsHeld, count_both}
 
 -- different witnesses after (0, 0), with entries within 2^37, and (0, 0) is one where it was met
@@ -22,7 +27,7 @@ pub record AreFound (R : Area) (W : ℕ) (ws : List V2) (met : Bool) : Type 0 wh
   pub few : count_both ws met ≤ W
 
 -- v is held: what is new of it is the last of those found, and waits
-pub record Adds (W : ℕ) (old : List V2) (was : Bool) (v : V2) (new : List V2) (met : Bool) (waited waiting : List V2) : Type 0 where
+pub record Adds (old : List V2) (was : Bool) (v : V2) (new : List V2) (met : Bool) (waited waiting : List V2) : Type 0 where
   pub more : List V2
   pub is : new ≡ old ++ more
   pub waits : waiting ≡ waited ++ more
@@ -32,15 +37,15 @@ pub record Adds (W : ℕ) (old : List V2) (was : Bool) (v : V2) (new : List V2) 
   pub stays : IsTrue was → IsTrue met
   pub different : AllPairs ◌≢◌ old → AllPairs ◌≢◌ new
   pub narrow : IsNarrow v
-  pub few : count_both new met ≤ W
+  pub few : count_both new met ≤ count_both old was + 2
 
 -- more were found, after the old ones, and all of these wait
-pub record Extends (R : Area) (W : ℕ) (old : List V2) (was : Bool) (new : List V2) (met : Bool) (waited waiting : List V2) : Type 0 where
+pub record Extends (R : Area) (old : List V2) (was : Bool) (new : List V2) (met : Bool) (waited waiting : List V2) : Type 0 where
   pub more : List V2
   pub is : new ≡ old ++ more
   pub waits : waiting ≡ waited ++ more
   pub stays : IsTrue was → IsTrue met
-  pub found : AreFound R W new met
+  pub half : AreHalf R new met
 
 -- all that w links to is held
 abbrev pub IsClosedAt : Area → List V2 → Bool → V2 → Type 0
@@ -55,3 +60,18 @@ pub record AreAll (R : Area) (W : ℕ) (ws : List V2) (met : Bool) : Type 0 wher
   pub found : AreFound R W ws met
   pub units : HasUnits ws met
   pub closed : (w : V2) → Contains ws w → IsClosedAt R ws met w
+
+-- w links to the pairs of the span, which are more than W
+pub record IsTooLong (R : Area) (W : ℕ) (w : V2) (span : Span) : Type 0 where
+  pub witness : IsWitness R w
+  pub moves : AreMoves (LinksTo R) w span.low span.high
+  pub count : ℕ
+  pub counted : IsCount span.low span.high count
+  pub long : W < count
+
+-- why the search stops, where it has found ws and, where it was met, (0, 0)
+abbrev pub IsStop : Area → ℕ → List V2 → Bool → Stop → Type 0
+IsStop R W ws met Over = AreHalf R ws met × (W < count_both ws met)
+IsStop R W ws met (Long w span) = IsTooLong R W w span
+IsStop R W ws met (Wide v) = IsTooWide R v
+IsStop R W ws met NoMemory = ⊤

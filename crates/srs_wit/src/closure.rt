@@ -1,19 +1,19 @@
 // The search for all witnesses of a cell.
-ghost use Rattle.std.specs.Prelude.{◌≡◌, ℕ, ◌+◌, ◌<◌, ◌≤◌, ◌^◌, false, [], take, MatchBool, OnOk, IfOk, IfErr};
+ghost use Rattle.std.specs.Prelude.{◌≡◌, ℕ, ◌+◌, ◌<◌, ◌≤◌, ◌^◌, false, [], take, List, Bool, MatchOption, IfSome, OnOk, IfOk, IfErr};
 ghost use Rattle.indexmap.specs.IndexSet.{IsEmpty};
 ghost use Rattle.srs_map.specs.Step.{IsNarrow};
+ghost use Rattle.srs_num.specs.declared.pairs.V2.{V2};
 ghost use Rattle.srs_plane.specs.Regions.{Area};
 ghost use Rattle.srs_path.specs.Witnesses.{IsWitness, IsSmall};
 ghost use Rattle.srs_wit.specs.Listing.{AreAllWitnesses, AreTooMany, IsExcess};
 ghost use Rattle.srs_wit.specs.Halves.{AreNarrow, count_both, with_opposites};
-ghost use Rattle.srs_wit.specs.Search.{AreHalf, AreFound, Adds, Extends, IsClosedAt, HasUnits, AreAll};
+ghost use Rattle.srs_wit.specs.Search.{AreHalf, AreFound, Adds, Extends, IsClosedAt, HasUnits, AreAll, IsStop};
 
 use crate::halves::{upper, with_opposites};
 use crate::sets::{Big, WitErr, WitSet};
-use crate::spans::{count, first_pairs, pair_at};
+use crate::spans::{count, first_pairs, pair_at, wide_end};
 use indexmap::IndexSet;
-use srs_cell::Cell;
-use srs_map::is_narrow;
+use srs_cell::{Cell, Span};
 use srs_num::{NoMemory, Pairs, V2};
 use std::alloc::Global;
 
@@ -25,6 +25,18 @@ struct Search {
     found: IndexSet<V2>,
     origin: bool,
     waiting: Vec<V2>,
+}
+
+// Why a search stops before its end.
+#[derive(Drop)]
+pub(crate) enum Stop {
+    // More witnesses than the bound were found.
+    Over,
+    // The witness links to the pairs of the span, which are more than the bound.
+    Long(V2, Span),
+    // A witness has an entry past 2^37.
+    Wide(V2),
+    NoMemory,
 }
 
 // The most pairs for which there is room at first.
@@ -42,18 +54,17 @@ fn too_many(shown: Result<Pairs, NoMemory>, bound: u32) -> WitErr
 
 impl Search {
     // Nothing found yet. There is room for as many as the bound allows, up to a table that costs little to make.
-    fn new(alloc: Global, bound: u32) -> Result<Search, WitErr>
+    fn new(alloc: Global, bound: u32) -> Result<Search, NoMemory>
         ensures found { IfOk result (λ search. IsEmpty search.found) }
         ensures origin { IfOk result (λ search. search.origin ≡ false) }
         ensures waiting { IfOk result (λ search. search.waiting.items ≡ []) }
-        ensures excess { (R : Area) → IfErr result (IsExcess R bound) }
     {
         let room = (bound as usize / 2 + 1).min(ROOM);
         let Ok(found) = IndexSet::with_capacity(alloc, room) else {
-            return Err(WitErr::NoMemory);
+            return Err(NoMemory);
         };
         let Ok(waiting) = Vec::with_capacity(alloc, room) else {
-            return Err(WitErr::NoMemory);
+            return Err(NoMemory);
         };
         Ok(Search {
             found,
@@ -64,7 +75,7 @@ impl Search {
 
     // How many witnesses were found, on both sides of (0,0).
     fn count(&self) -> u64
-        requires { count_both self.now.found.keys self.now.origin ≤ 2 ^ 33 }
+        requires { count_both self.now.found.keys self.now.origin ≤ 2 ^ 34 }
         ensures { result ≡ count_both self.now.found.keys self.now.origin }
     {
         let half = self.found.len() as u64;
@@ -81,12 +92,16 @@ impl Search {
         Pairs::from_slice(alloc, &all[..n as usize])
     }
 
-    // Whether they are more than the bound.
-    fn is_over(&self, bound: u32) -> bool
-        requires { count_both self.now.found.keys self.now.origin ≤ 2 ^ 33 }
-        ensures { MatchBool result (bound < count_both self.now.found.keys self.now.origin) (count_both self.now.found.keys self.now.origin ≤ bound) }
+    // Whether the search goes on: those that were found aren't more than the bound.
+    fn within(&self, bound: u32) -> Result<(), Stop>
+        requires { count_both self.now.found.keys self.now.origin ≤ 2 ^ 34 }
+        ensures few { OnOk result (count_both self.now.found.keys self.now.origin ≤ bound) }
+        ensures stop { (R : Area) → AreHalf R self.now.found.keys self.now.origin → IfErr result (IsStop R bound self.now.found.keys self.now.origin) }
     {
-        self.count() > bound as u64
+        if self.count() > bound as u64 {
+            return Err(Stop::Over);
+        }
+        Ok(())
     }
 
     // The refusal that shows one more of them than the bound.
@@ -98,67 +113,99 @@ impl Search {
         too_many(self.first(alloc, bound as u64 + 1), bound)
     }
 
-    // Adds a witness, which stands for the one on the other side too.
-    fn add(&mut self, alloc: Global, bound: u32, v: V2) -> Result<(), WitErr>
-        requires few { count_both self.old.found.keys self.old.origin ≤ bound }
-        requires narrow { AreNarrow self.old.found.keys }
-        ensures ok { OnOk result (Adds bound self.old.found.keys self.old.origin v self.new.found.keys self.new.origin self.old.waiting.items self.new.waiting.items) }
-        ensures excess { (R : Area) → AreFound R bound self.old.found.keys self.old.origin → IsWitness R v → IfErr result (IsExcess R bound) }
+    // The refusal that shows why the search stopped.
+    fn refusal(&self, alloc: Global, cell: &Cell, bound: u32, stop: Stop) -> WitErr
+        requires { IsStop cell.now bound self.now.found.keys self.now.origin stop }
+        ensures { IsExcess cell.now bound result }
     {
-        if !is_narrow(v) {
-            return Err(WitErr::Large(Big::Wide(v)));
+        let _cell = cell;
+        match stop {
+            Stop::Over => self.excess(alloc, bound),
+            Stop::Long(w, span) => {
+                too_many(first_pairs(alloc, w, span, bound as u64 + 1), bound)
+            }
+            Stop::Wide(v) => WitErr::Large(Big::Wide(v)),
+            Stop::NoMemory => WitErr::NoMemory,
         }
+    }
+
+    // Adds a witness, which stands for the one on the other side too.
+    #[inline(always)]
+    fn add(&mut self, v: V2) -> Result<(), NoMemory>
+        requires { IsNarrow v }
+        ensures { OnOk result (Adds self.old.found.keys self.old.origin v self.new.found.keys self.new.origin self.old.waiting.items self.new.waiting.items) }
+    {
         let Some(u) = upper(v) else {
             self.origin = true;
-            if self.is_over(bound) {
-                return Err(self.excess(alloc, bound));
-            }
             return Ok(());
         };
         match self.found.insert(u) {
             Ok(true) => {}
             Ok(false) => return Ok(()),
-            Err(_) => return Err(WitErr::NoMemory),
-        }
-        if self.is_over(bound) {
-            return Err(self.excess(alloc, bound));
+            Err(_) => return Err(NoMemory),
         }
         match self.waiting.push(u) {
             Ok(()) => Ok(()),
-            Err(_) => Err(WitErr::NoMemory),
+            Err(_) => Err(NoMemory),
         }
     }
 
     // Adds the units.
-    fn add_units(&mut self, alloc: Global, bound: u32) -> Result<(), WitErr>
+    fn add_units(&mut self, bound: u32) -> Result<(), Stop>
         requires found { IsEmpty self.old.found }
         requires origin { self.old.origin ≡ false }
         requires waiting { self.old.waiting.items ≡ [] }
-        ensures found { (R : Area) → OnOk result (Extends R bound [] false self.new.found.keys self.new.origin [] self.new.waiting.items) }
+        ensures found { (R : Area) → OnOk result (Extends R [] false self.new.found.keys self.new.origin [] self.new.waiting.items) }
+        ensures few { OnOk result (count_both self.new.found.keys self.new.origin ≤ bound) }
         ensures units { OnOk result (HasUnits self.new.found.keys self.new.origin) }
-        ensures excess { (R : Area) → IfErr result (IsExcess R bound) }
+        ensures stop { (R : Area) → IfErr result (IsStop R bound self.new.found.keys self.new.origin) }
     {
-        self.add(alloc, bound, V2 { a: 1, b: 0 })?;
-        self.add(alloc, bound, V2 { a: 0, b: 1 })?;
-        Ok(())
+        let Ok(()) = self.add(V2 { a: 1, b: 0 }) else {
+            return Err(Stop::NoMemory);
+        };
+        let Ok(()) = self.add(V2 { a: 0, b: 1 }) else {
+            return Err(Stop::NoMemory);
+        };
+        self.within(bound)
     }
 
     // Adds all that a witness links to. A span longer than the bound shows too many witnesses by itself.
-    fn add_links(&mut self, alloc: Global, cell: &Cell, bound: u32, w: V2) -> Result<(), WitErr>
+    fn add_links(&mut self, cell: &Cell, bound: u32, w: V2) -> Result<(), Stop>
         requires narrow { IsNarrow w }
         requires witness { IsWitness cell.now w }
         requires found { AreFound cell.now bound self.old.found.keys self.old.origin }
-        ensures extends { OnOk result (Extends cell.now bound self.old.found.keys self.old.origin self.new.found.keys self.new.origin self.old.waiting.items self.new.waiting.items) }
+        ensures extends { OnOk result (Extends cell.now self.old.found.keys self.old.origin self.new.found.keys self.new.origin self.old.waiting.items self.new.waiting.items) }
+        ensures few { OnOk result (count_both self.new.found.keys self.new.origin ≤ bound) }
         ensures closed { OnOk result (IsClosedAt cell.now self.new.found.keys self.new.origin w) }
-        ensures excess { IfErr result (IsExcess cell.now bound) }
+        ensures stop { IfErr result (IsStop cell.now bound self.new.found.keys self.new.origin) }
     {
         let span = cell.links(w);
         let n = count(span);
         if n > bound as u64 {
-            return Err(too_many(first_pairs(alloc, w, span, bound as u64 + 1), bound));
+            return Err(Stop::Long(w, span));
+        }
+        if let Some(v) = wide_end(w, span) {
+            return Err(Stop::Wide(v));
         }
         for k in 0..n {
-            self.add(alloc, bound, pair_at(w, span, k))?;
+            let Ok(()) = self.add(pair_at(w, span, k)) else {
+                return Err(Stop::NoMemory);
+            };
+        }
+        self.within(bound)
+    }
+
+    // Finds all witnesses. The newest pair goes first: where there are too many, this way mostly meets them sooner.
+    fn find_all(&mut self, cell: &Cell, bound: u32) -> Result<(), Stop>
+        requires found { IsEmpty self.old.found }
+        requires origin { self.old.origin ≡ false }
+        requires waiting { self.old.waiting.items ≡ [] }
+        ensures all { OnOk result (AreAll cell.now bound self.new.found.keys self.new.origin) }
+        ensures stop { IfErr result (IsStop cell.now bound self.new.found.keys self.new.origin) }
+    {
+        self.add_units(bound)?;
+        while let Some(w) = self.waiting.pop() {
+            self.add_links(cell, bound, w)?;
         }
         Ok(())
     }
@@ -177,19 +224,6 @@ impl Search {
     }
 }
 
-// All witnesses. The newest pair goes first: where there are too many, this way mostly meets them sooner.
-fn find_all(alloc: Global, cell: &Cell, bound: u32) -> Result<Search, WitErr>
-    ensures all { IfOk result (λ search. AreAll cell.now bound search.found.keys search.origin) }
-    ensures excess { IfErr result (IsExcess cell.now bound) }
-{
-    let mut search = Search::new(alloc, bound)?;
-    search.add_units(alloc, bound)?;
-    while let Some(w) = search.waiting.pop() {
-        search.add_links(alloc, cell, bound, w)?;
-    }
-    Ok(search)
-}
-
 /// The witnesses of the cell, for a bound `w` from 1 to 16384 on their number.
 ///
 /// `Large` exactly where the cell isn't small: it carries one more witness than the bound, or one past 2^37.
@@ -200,9 +234,42 @@ pub fn witnesses(alloc: Global, cell: &Cell, w: u32) -> Result<WitSet, WitErr>
     ensures small { OnOk result (IsSmall cell.now w) }
     ensures large { IfErr result (IsExcess cell.now w) }
 {
-    let search = find_all(alloc, cell, w)?;
+    let Ok(mut search) = Search::new(alloc, w) else {
+        return Err(WitErr::NoMemory);
+    };
+    if let Err(stop) = search.find_all(cell, w) {
+        return Err(search.refusal(alloc, cell, w, stop));
+    }
     match search.ascending(alloc) {
         Ok(pairs) => Ok(WitSet::new(pairs)),
         Err(_) => Err(WitErr::NoMemory),
+    }
+}
+
+/// The witnesses of the cell, for a bound `w` from 1 to 16384 on their number, or `None` exactly where the cell isn't
+/// small. It is the call for whoever asks for nothing that shows this: of a cell that isn't small it lists no witness.
+pub fn small_witnesses(alloc: Global, cell: &Cell, w: u32) -> Result<Option<WitSet>, NoMemory>
+    requires some { 1 ≤ w }
+    requires few { w ≤ 16384 }
+    ensures list { IfOk result (λ found. IfSome found (AreAllWitnesses cell.now)) }
+    ensures small { IfOk result (λ found. MatchOption found (IsSmall cell.now w → ⊥) (λ _. IsSmall cell.now w)) }
+{
+    let mut search = Search::new(alloc, w)?;
+    if let Err(stop) = search.find_all(cell, w) {
+        shows_large(&stop)?;
+        return Ok(None);
+    }
+    Ok(Some(WitSet::new(search.ascending(alloc)?)))
+}
+
+// That the search stopped shows that the cell isn't small, but for want of memory.
+fn shows_large(stop: &Stop) -> Result<(), NoMemory>
+    ensures { (R : Area) (W : ℕ) (ws : List V2) (met : Bool) → IsStop R W ws met stop.now → OnOk result (IsSmall R W → ⊥) }
+{
+    match stop {
+        Stop::Over => Ok(()),
+        Stop::Long(..) => Ok(()),
+        Stop::Wide(_) => Ok(()),
+        Stop::NoMemory => Err(NoMemory),
     }
 }

@@ -8,5 +8,5 @@ pub mod laws;
 mod sets;
 mod spans;
 
-pub use closure::witnesses;
+pub use closure::{small_witnesses, witnesses};
 pub use sets::{Big, WitErr, WitSet};

@@ -1,10 +1,11 @@
 // The pairs that one pair links to: all begin with its second entry, and their second entries make one span.
-ghost use Rattle.std.specs.Prelude.{◌≡◌, ◌≤◌, ◌<◌, ◌^◌, ◌↔◌, IsTrue, IfOk};
+ghost use Rattle.std.specs.Prelude.{◌≡◌, ◌≤◌, ◌<◌, ◌^◌, ◌↔◌, IsTrue, IfOk, MatchOption};
 ghost use Rattle.srs_num.specs.Points.{IsWithin};
 ghost use Rattle.srs_map.specs.Step.{IsNarrow};
-ghost use Rattle.srs_wit.specs.Spans.{IsCount, pair_from, pairs_from};
+ghost use Rattle.srs_wit.specs.Spans.{IsCount, pair_from, pairs_from, ArePairsNarrow, IsWideAmong};
 
 use srs_cell::Span;
+use srs_map::is_narrow;
 use srs_num::{NoMemory, Pairs, V2};
 use std::alloc::Global;
 
@@ -31,6 +32,31 @@ pub(crate) fn pair_at(w: V2, span: Span, k: u64) -> V2
         a: w.b,
         b: span.low + k as i64,
     }
+}
+
+// A pair of the span of `w` with an entry past 2^37, if there is one: then one of the two ends is such a pair.
+pub(crate) fn wide_end(w: V2, span: Span) -> Option<V2>
+    requires { IsNarrow w }
+    ensures { MatchOption result (ArePairsNarrow w span.low span.high) (IsWideAmong w span.low span.high) }
+{
+    if span.low > span.high {
+        return None;
+    }
+    let first = V2 {
+        a: w.b,
+        b: span.low,
+    };
+    if !is_narrow(first) {
+        return Some(first);
+    }
+    let last = V2 {
+        a: w.b,
+        b: span.high,
+    };
+    if !is_narrow(last) {
+        return Some(last);
+    }
+    None
 }
 
 // The first `n` pairs of the span of `w`.

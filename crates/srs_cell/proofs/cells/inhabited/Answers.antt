@@ -1,7 +1,8 @@
 use Rattle.std.proofs.Common.{◌≡◌, refl}
 use Rattle.std.proofs.lemmas.Bool.{false≢true}
 use Rattle.srs_num.specs.Lines.{sum_of}
-use Rattle.srs_cell.proofs.Areas.{no_point, sum_inside}
+use Rattle.srs_cell.specs.Corners.{boxed}
+use Rattle.srs_cell.proofs.Areas.{no_point, sum_in_halves, sum_inside}
 use Rattle.srs_cell.proofs.cells.inhabited.Goals as goal
 
 pub returns-then-not-is_inside-clause-cell : goal.returns-then-not-is_inside-clause-cell
@@ -23,3 +24,8 @@ pub returns-clause-point : goal.returns-clause-point
 returns-clause-point c =
     let s : c.sum-sample.result ≡ sum_of c.args.corners.items = rw c.deref.ensures.value at c.sum-sample.ensures in
     λ _. (sum_of c.args.corners.items, sum_inside c.args.region c.args.corners.items c.requires (rw s at (c.if-not-is_inside.ensures.0 refl)))
+
+pub is_inside-requires : goal.is_inside-requires
+is_inside-requires c =
+    let s : c.sum-sample.result ≡ sum_of c.args.corners.items = rw c.deref.ensures.value at c.sum-sample.ensures in
+    rw s (sum_in_halves (boxed c.args.region) c.args.corners.items c.requires.hull.inside c.requires.some)

@@ -3,26 +3,27 @@ use Rattle.std.proofs.lemmas.Bool.{false≢true}
 use Rattle.srs_cell.specs.Corners.{boxed}
 use Rattle.srs_cell.proofs.Boxed.{box-IsBoxed}
 use Rattle.srs_cell.proofs.Cuts.{cut_of}
+use Rattle.srs_cell.proofs.Joining.{part_joined}
 use Rattle.srs_cell.proofs.corners.clip_corners.Goals as goal
 
 pub unreachable-requires : goal.unreachable-requires
 unreachable-requires c =
     let R = take c.args.count c.args.region.now in
-    let k = cut_of (boxed R) c.args.corners.now c.in_ok-part.part.items c.args.line.now c.requires.hull c.requires.sized (box-IsBoxed (map (λ h. h.form) R))
+    let k = cut_of (boxed R) c.args.corners.now c.in_ok-part.part.items c.args.section.now.line c.requires.hull c.requires.sized (box-IsBoxed (map (λ h. h.form) R))
     c.in_ok-part.ensures (λ a. false≢true (c.if-all_above.ensures.1 a)) (λ a. false≢true (c.if-all_below.ensures.1 a)) in
-    k.first c.in_default.ensures
+    k.first (rw c.in_default.is at c.requires.section.first)
 
-pub unreachable-requires-in_default-line_end : goal.unreachable-requires-in_default-line_end
-unreachable-requires-in_default-line_end c =
+pub unreachable-requires-in_default-second : goal.unreachable-requires-in_default-second
+unreachable-requires-in_default-second c =
     let R = take c.args.count c.args.region.now in
-    let k = cut_of (boxed R) c.args.corners.now c.in_ok-part.part.items c.args.line.now c.requires.hull c.requires.sized (box-IsBoxed (map (λ h. h.form) R))
+    let k = cut_of (boxed R) c.args.corners.now c.in_ok-part.part.items c.args.section.now.line c.requires.hull c.requires.sized (box-IsBoxed (map (λ h. h.form) R))
     c.in_ok-part.ensures (λ a. false≢true (c.if-all_above.ensures.1 a)) (λ a. false≢true (c.if-all_below.ensures.1 a)) in
-    k.second (rw c.opposite-turned.ensures at c.in_default-line_end.ensures)
+    k.second (rw c.in_default-second.is at c.requires.section.second)
 
 pub returns : goal.returns
 returns c =
     let R = take c.args.count c.args.region.now in
-    let k = cut_of (boxed R) c.args.corners.now c.in_ok-part.part.items c.args.line.now c.requires.hull c.requires.sized (box-IsBoxed (map (λ h. h.form) R))
+    let k = cut_of (boxed R) c.args.corners.now c.in_ok-part.part.items c.args.section.now.line c.requires.hull c.requires.sized (box-IsBoxed (map (λ h. h.form) R))
     c.in_ok-part.ensures (λ a. false≢true (c.if-all_above.ensures.1 a)) (λ a. false≢true (c.if-all_below.ensures.1 a)) in
-    let second = rw c.opposite-turned.ensures at c.in-Some-line_end.ensures in
-    rw (c.in_ok-add_corner-2.ensures, c.in_ok-add_corner.ensures) (k.ends c.in-Some.first c.in-Some-line_end.second c.in-Some.ensures second)
+    part_joined (boxed R) c.args.corners.now c.args.section.now.line c.in_ok-part.part.items c.join_corner.new.corners.items c.join_corner-2.new.corners.items c.in-Some.first c.in-Some-second.second
+    c.in_ok-join_corner.ensures c.in_ok-join_corner-2.ensures (k.ends c.in-Some.first c.in-Some-second.second (rw c.in-Some.is at c.requires.section.first) (rw c.in-Some-second.is at c.requires.section.second))

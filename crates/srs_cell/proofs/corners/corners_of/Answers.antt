@@ -11,7 +11,7 @@ returns-in-Nothing-clause-found c =
     let R = c.args.region.now in
     let within : c.loop-i.i < length R = omega arith in
     corners_nothing R c.loop-i.i c.half-half.result c.loop-i.corners.items within c.half-half.ensures c.loop-i.invariant
-    (rw (c.in-Nothing.is, c.deref.ensures.value) at c.in_ok-clip_corners.ensures)
+    (rw (c.in-Nothing.is, c.deref.ensures.value, c.of-section.ensures.line) at c.in_ok-clip_corners.ensures)
 
 pub loop-i-preserved : goal.loop-i-preserved
 loop-i-preserved c =
@@ -21,9 +21,9 @@ loop-i-preserved c =
     let within : c.loop-i.i < length R = omega arith in
     elim c.match-branch-3.branch [
       | in-Whole w ↦ rw w.corners-is (corners_whole R c.loop-i.i h cs within c.half-half.ensures c.loop-i.invariant
-          (rw (w.in-Whole.is, c.deref.ensures.value) at c.in_ok-clip_corners.ensures))
+          (rw (w.in-Whole.is, c.deref.ensures.value, c.of-section.ensures.line) at c.in_ok-clip_corners.ensures))
       | in-Part w ↦ rw w.corners-is (corners_part R c.loop-i.i h cs w.in-Part.part.items within c.half-half.ensures c.loop-i.invariant
-          (rw (w.in-Part.is, c.deref.ensures.value) at c.in_ok-clip_corners.ensures))
+          (rw (w.in-Part.is, c.deref.ensures.value, c.of-section.ensures.line) at c.in_ok-clip_corners.ensures))
     ]
 
 pub returns : goal.returns

@@ -3,11 +3,12 @@ use Rattle.srs_wit.specs.Listing.{AreAllWitnesses}
 use Rattle.srs_wit.proofs.Closing.{small_from_all}
 use Rattle.srs_wit.proofs.closure.witnesses.Goals as goal
 
-pub new-requires : goal.new-requires
-new-requires c = (c.in-Ok.ensures c.args.cell.now c.args.w c.in_ok-search.ensures.all).ascending
+pub new-requires-in-Ok-ascending : goal.new-requires-in-Ok-ascending
+new-requires-in-Ok-ascending c = (c.in-Ok-ascending.ensures c.args.cell.now c.args.w c.in_default-find_all.ensures.all).ascending
 
-pub returns-in-Ok-clause-list : goal.returns-in-Ok-clause-list
-returns-in-Ok-clause-list c = subst (AreAllWitnesses c.args.cell.now) (sym c.new.ensures) (c.in-Ok.ensures c.args.cell.now c.args.w c.in_ok-search.ensures.all)
+pub returns-in-Ok-ascending-clause-list : goal.returns-in-Ok-ascending-clause-list
+returns-in-Ok-ascending-clause-list c =
+    subst (AreAllWitnesses c.args.cell.now) (sym c.new-in-Ok-ascending.ensures) (c.in-Ok-ascending.ensures c.args.cell.now c.args.w c.in_default-find_all.ensures.all)
 
-pub returns-in-Ok-clause-small : goal.returns-in-Ok-clause-small
-returns-in-Ok-clause-small c = small_from_all c.args.cell.now c.args.w c.in_ok-search.search.found.keys c.in_ok-search.search.origin c.in_ok-search.ensures.all
+pub returns-in-Ok-ascending-clause-small : goal.returns-in-Ok-ascending-clause-small
+returns-in-Ok-ascending-clause-small c = small_from_all c.args.cell.now c.args.w c.find_all.new.self.found.keys c.find_all.new.self.origin c.in_default-find_all.ensures.all

@@ -4,7 +4,7 @@ use Rattle.std.proofs.lemmas.Int.{to_z-of_z}
 use Rattle.srs_num.specs.Points.{IsPointWithin}
 use Rattle.srs_num.proofs.Ranges.{small_fits}
 use Rattle.srs_cell.proofs.Least.{sized_among, depth_fits}
-use Rattle.srs_cell.proofs.Infima.{low_is, bound_sized}
+use Rattle.srs_cell.proofs.Infima.{low_is, bound_sized, least_in_halves}
 use Rattle.srs_cell.proofs.cells.Cell.low.Goals as goal
 
 pub returns-clause-low : goal.returns-clause-low
@@ -27,3 +27,8 @@ returns-clause-sized c =
     let n : FitsSigned w128 c.value_at.result = small_fits w128 _ (2 ^ 117) c.value_at.ensures.sized (lit< tt) in
     let d : FitsSigned w128 c.parts-den.result.2 = depth_fits _ least c.parts-den.ensures.d sized in
     simp to_z-of_z (bound_sized c.value_at.result c.parts-den.result.2 c.is_inside.result least c.value_at.ensures.sized c.parts-den.ensures.d sized)
+
+pub is_inside-requires : goal.is_inside-requires
+is_inside-requires c =
+    let cell = c.corners-corners.ensures in
+    rw c.region.ensures.value (least_in_halves c.args.self.now _ cell.1.corners.hull.inside c.args.f.now c.least_corner-least.result _ c.least_sum-total.ensures)

@@ -11,3 +11,6 @@ returns-clause-part c = rw (← c.self.view_is, ← c.in_ok-region.ensures) c.in
 
 pub returns-clause-point : goal.returns-clause-point
 returns-clause-point c = rw (← c.self.view_is, ← c.in_ok-region.ensures) c.inhabited.ensures.point
+
+pub corners_with-requires-clause-section : goal.corners_with-requires-clause-section
+corners_with-requires-clause-section c = rw (← c.self.view_is) at c.requires.section

@@ -1,0 +1,57 @@
+// Corners that are the same point.
+ghost use Rattle.std.specs.Prelude.{◌≡◌, ◌↔◌, ◌++◌, [], ◌∷◌, IsTrue, OnOk, ◌*ℤ◌};
+ghost use Rattle.srs_cell.specs.Doubles.{IsSamePoint, HasDouble, IsJoined};
+
+use crate::bounds::{are_half, is_less_product};
+use srs_num::{Corner, NoMemory};
+
+// Whether n / d and m / e are seen to be the same number: they are, for numbers whose products 128 bits hold.
+fn is_same(n: i128, d: i128, m: i128, e: i128) -> bool
+    ensures { IsTrue result → n *ℤ e ≡ m *ℤ d }
+{
+    if !are_half(n, d, m, e) {
+        return false;
+    }
+    !is_less_product(n, d, m, e) && !is_less_product(m, e, n, d)
+}
+
+// Whether both corners are seen to be the same point.
+fn is_same_point(corner: &Corner, other: &Corner) -> bool
+    ensures { IsTrue result → IsSamePoint corner.now other.now }
+{
+    let (p, q, d) = corner.parts();
+    let (r, s, e) = other.parts();
+    is_same(p, d, r, e) && is_same(q, d, s, e)
+}
+
+// Whether one of the corners is seen to be the same point as the other one.
+fn has_double(corners: &[Corner], other: &Corner) -> bool
+    ensures { IsTrue result → HasDouble corners.now other.now }
+{
+    for corner in corners {
+        if is_same_point(corner, other) {
+            return true;
+        }
+    }
+    false
+}
+
+// Appends the corner.
+pub(crate) fn add_corner(corners: &mut Vec<Corner>, corner: Corner) -> Result<(), NoMemory>
+    ensures { OnOk result (corners.new.items ≡ corners.old.items ++ corner ∷ []) }
+{
+    match corners.push(corner) {
+        Ok(()) => Ok(()),
+        Err(_) => Err(NoMemory),
+    }
+}
+
+// Appends the corner, unless one of the corners is seen to be the same point.
+pub(crate) fn join_corner(corners: &mut Vec<Corner>, corner: Corner) -> Result<(), NoMemory>
+    ensures { OnOk result (IsJoined corners.old.items corner corners.new.items) }
+{
+    if has_double(corners, &corner) {
+        return Ok(());
+    }
+    add_corner(corners, corner)
+}
