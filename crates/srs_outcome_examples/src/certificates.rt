@@ -1,4 +1,7 @@
 // Certificates, as their texts spell them.
+ghost use Rattle.std.specs.Prelude.{◌≡◌, IfOk};
+ghost use Rattle.srs_plane.specs.Polygons.{region_of};
+
 use srs_check::{Built, Counts, build};
 use srs_file::{Cert, read_cert};
 use srs_tree::Version;
@@ -32,7 +35,9 @@ pub fn certificate(alloc: Global, text: &str) -> Result<Cert, Fail> {
 }
 
 // The version of the certificate, and its counts.
-pub fn built(alloc: Global, cert: &Cert) -> Result<(Version, Counts), Fail> {
+pub fn built(alloc: Global, cert: &Cert) -> Result<(Version, Counts), Fail>
+    ensures { IfOk result (λ p. p.0.region ≡ region_of cert.now.vertices) }
+{
     match build(alloc, cert)? {
         Built::Valid(version, counts) => Ok((version, counts)),
         Built::Bad(_, _) => Err("each node proves itself")?,
