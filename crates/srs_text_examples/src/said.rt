@@ -63,31 +63,19 @@ const POINTS: [Row; 11] = [
         "point 0 0 1 open\n",
     ),
     (
-        Plain::Point(
-            (0, 0, 1),
-            Told::Undecided(Some(Cause::Depth(Why::Cycle))),
-        ),
+        Plain::Point((0, 0, 1), Told::Undecided(Some(Cause::Depth(Why::Cycle)))),
         "point 0 0 1 open depth cycle\n",
     ),
     (
-        Plain::Point(
-            (0, 0, 1),
-            Told::Undecided(Some(Cause::Depth(Why::Witness))),
-        ),
+        Plain::Point((0, 0, 1), Told::Undecided(Some(Cause::Depth(Why::Witness)))),
         "point 0 0 1 open depth witness\n",
     ),
     (
-        Plain::Point(
-            (0, 0, 1),
-            Told::Undecided(Some(Cause::Cells(Why::Cycle))),
-        ),
+        Plain::Point((0, 0, 1), Told::Undecided(Some(Cause::Cells(Why::Cycle)))),
         "point 0 0 1 open cells cycle\n",
     ),
     (
-        Plain::Point(
-            (0, 0, 1),
-            Told::Undecided(Some(Cause::Cells(Why::Witness))),
-        ),
+        Plain::Point((0, 0, 1), Told::Undecided(Some(Cause::Cells(Why::Witness)))),
         "point 0 0 1 open cells witness\n",
     ),
     (
@@ -99,10 +87,7 @@ const POINTS: [Row; 11] = [
         "point 17 0 8 open memory\n",
     ),
     (
-        Plain::Point(
-            (4398046511104, -4398046511104, 1099511627776),
-            Told::Beyond,
-        ),
+        Plain::Point((4398046511104, -4398046511104, 1099511627776), Told::Beyond),
         "point 4398046511104 -4398046511104 1099511627776 beyond\n",
     ),
 ];
