@@ -1,53 +1,68 @@
 // Cells: which regions have a point, and how a form and a step range over one.
-use crate::polygons::with_kind;
+use crate::shapes::{CLOSED_CORNER, OPEN_CORNER, Shape, TRIANGLE, cell, cell_of};
 use srs_cell::{Bound, Cell, Span};
+use srs_map::is_narrow;
 use srs_num::{Form, V2};
-use srs_plane::{Half, Kind, Region, Vertex, polygon};
-use std::alloc::Global;
+use srs_plane::Kind;
+use std::alloc::{AllocError, Global};
 use std::test::Fail;
 
 const WIDEST: i64 = 1 << 37;
 
-// The triangle (0, 0), (1, 0), (0, 1).
-const TRIANGLE: [(i64, i64, i64); 3] = [(0, 0, 1), (1, 0, 1), (0, 1, 1)];
+// The kind of the triangle's edges, halves, and a point of the region; none where it has none.
+type Row = (
+    Kind,
+    &'static [(i64, i64, i64, Kind)],
+    Option<(i128, i128, i128)>,
+);
 
-// The triangle (0, 0), (1/8, 0), (0, 1/8).
-pub const CORNER: [(i64, i64, i64); 3] = [(0, 0, 1), (1, 0, 8), (0, 1, 8)];
+// The third row has halves that say nothing; those after it have halves that nothing meets.
+const WHOLE_TRIANGLES: [Row; 6] = [
+    (Kind::Ge, &[], Some((1, 1, 3))),
+    (Kind::Gt, &[], Some((1, 1, 3))),
+    (
+        Kind::Gt,
+        &[(0, 0, 1, Kind::Gt), (0, 0, 0, Kind::Ge)],
+        Some((1, 1, 3)),
+    ),
+    (Kind::Ge, &[(0, 0, 0, Kind::Gt)], None),
+    (Kind::Ge, &[(0, 0, -1, Kind::Ge)], None),
+    (Kind::Ge, &[(1, 0, -2, Kind::Ge)], None),
+];
 
-// The polygon's region with these halves appended.
-fn region_of(
-    alloc: Global,
-    vertices: &[Vertex],
-    halves: &[(i64, i64, i64, Kind)],
-) -> Result<Option<Region>, Fail> {
-    let Ok(mut region) = polygon(alloc, vertices) else {
-        return Ok(None);
-    };
-    for (a, b, c, kind) in halves {
-        let Some(form) = Form::new(*a, *b, *c) else {
-            return Ok(None);
-        };
-        if region.len() >= 80 {
-            return Ok(None);
-        }
-        region = region.with(alloc, Half { form, kind: *kind })?;
-    }
-    Ok(Some(region))
-}
-
-// The cell of a triangle, all of whose edges are of one kind, within some halves.
-pub fn cell_of(
-    alloc: Global,
-    corners: &[(i64, i64, i64)],
-    kind: Kind,
-    halves: &[(i64, i64, i64, Kind)],
-) -> Result<Option<Cell>, Fail> {
-    let vertices = with_kind(alloc, corners, kind)?;
-    match region_of(alloc, &vertices, halves)? {
-        Some(region) => Ok(Cell::of(alloc, region)?),
-        None => Ok(None),
-    }
-}
+// The edge y = 0 and the corner (0, 0), closed and left out; the segment x = 1/4 between open ends, and the point
+// (1/4, 1/2) of it; strict halves that leave nothing.
+const SEGMENTS_AND_POINTS: [Row; 8] = [
+    (Kind::Ge, &[(0, -1, 0, Kind::Ge)], Some((2, 0, 4))),
+    (Kind::Gt, &[(0, -1, 0, Kind::Ge)], None),
+    (Kind::Ge, &[(-1, -1, 0, Kind::Ge)], Some((0, 0, 3))),
+    (Kind::Ge, &[(-1, -1, 0, Kind::Gt)], None),
+    (
+        Kind::Gt,
+        &[(4, 0, -1, Kind::Ge), (-4, 0, 1, Kind::Ge)],
+        Some((4, 6, 16)),
+    ),
+    (
+        Kind::Gt,
+        &[
+            (4, 0, -1, Kind::Ge),
+            (-4, 0, 1, Kind::Ge),
+            (0, 2, -1, Kind::Ge),
+            (0, -2, 1, Kind::Ge),
+        ],
+        Some((8, 16, 32)),
+    ),
+    (
+        Kind::Gt,
+        &[(4, 0, -1, Kind::Gt), (-4, 0, 1, Kind::Gt)],
+        None,
+    ),
+    (
+        Kind::Ge,
+        &[(4, 0, -1, Kind::Ge), (-4, 0, 1, Kind::Gt)],
+        None,
+    ),
+];
 
 // A point of the region, where it has one.
 fn sample_of(
@@ -61,204 +76,200 @@ fn sample_of(
     }
 }
 
+// The place of the first row that isn't so; none where all are.
+fn first_other_sample(alloc: Global, rows: &[Row]) -> Result<Option<usize>, Fail> {
+    for (i, row) in rows.iter().enumerate() {
+        let (kind, halves, want) = *row;
+        if sample_of(alloc, kind, halves)? != want {
+            return Ok(Some(i));
+        }
+    }
+    Ok(None)
+}
+
 #[test]
 fn whole_triangles(rt: HostRuntime) -> Result<(), Fail> {
-    let alloc = rt.alloc();
-    assert_eq!(rt; sample_of(alloc, Kind::Ge, &[])?, Some((1, 1, 3)));
-    assert_eq!(rt; sample_of(alloc, Kind::Gt, &[])?, Some((1, 1, 3)));
-    // halves that say nothing, and that nothing meets
-    assert_eq!(rt;
-        sample_of(alloc, Kind::Gt, &[(0, 0, 1, Kind::Gt), (0, 0, 0, Kind::Ge)])?,
-        Some((1, 1, 3))
-    );
-    assert_eq!(rt; sample_of(alloc, Kind::Ge, &[(0, 0, 0, Kind::Gt)])?, None);
-    assert_eq!(rt; sample_of(alloc, Kind::Ge, &[(0, 0, -1, Kind::Ge)])?, None);
-    assert_eq!(rt; sample_of(alloc, Kind::Ge, &[(1, 0, -2, Kind::Ge)])?, None);
+    assert_eq!(rt; first_other_sample(rt.alloc(), &WHOLE_TRIANGLES)?, None);
     Ok(())
 }
 
 #[test]
 fn segments_and_points(rt: HostRuntime) -> Result<(), Fail> {
-    let alloc = rt.alloc();
-    // the edge y = 0, closed and left out
-    assert_eq!(rt;
-        sample_of(alloc, Kind::Ge, &[(0, -1, 0, Kind::Ge)])?,
-        Some((2, 0, 4))
-    );
-    assert_eq!(rt; sample_of(alloc, Kind::Gt, &[(0, -1, 0, Kind::Ge)])?, None);
-    // the corner (0, 0), closed and left out
-    assert_eq!(rt;
-        sample_of(alloc, Kind::Ge, &[(-1, -1, 0, Kind::Ge)])?,
-        Some((0, 0, 3))
-    );
-    assert_eq!(rt; sample_of(alloc, Kind::Ge, &[(-1, -1, 0, Kind::Gt)])?, None);
-    // the segment x = 1/4 between open ends, and the point (1/4, 1/2) of it
-    let segment = [(4, 0, -1, Kind::Ge), (-4, 0, 1, Kind::Ge)];
-    assert_eq!(rt; sample_of(alloc, Kind::Gt, &segment)?, Some((4, 6, 16)));
-    let point = [
-        (4, 0, -1, Kind::Ge),
-        (-4, 0, 1, Kind::Ge),
-        (0, 2, -1, Kind::Ge),
-        (0, -2, 1, Kind::Ge),
-    ];
-    assert_eq!(rt; sample_of(alloc, Kind::Gt, &point)?, Some((8, 16, 32)));
-    // strict halves that leave nothing
-    assert_eq!(rt;
-        sample_of(
-            alloc,
-            Kind::Gt,
-            &[(4, 0, -1, Kind::Gt), (-4, 0, 1, Kind::Gt)]
-        )?,
-        None
-    );
-    assert_eq!(rt;
-        sample_of(
-            alloc,
-            Kind::Ge,
-            &[(4, 0, -1, Kind::Ge), (-4, 0, 1, Kind::Gt)]
-        )?,
-        None
-    );
+    assert_eq!(rt; first_other_sample(rt.alloc(), &SEGMENTS_AND_POINTS)?, None);
     Ok(())
+}
+
+// 76 halves that the square round (0, 0) is within.
+fn many_halves(alloc: Global) -> Result<Vec<(i64, i64, i64, Kind)>, AllocError> {
+    let most = 1i64 << 38;
+    let mut halves = Vec::new(alloc);
+    for i in 0..76u8 {
+        let near = most - i64::from(i);
+        let far = most - 77 * i64::from(i);
+        halves.push((near, far, most, Kind::Ge))?;
+    }
+    Ok(halves)
+}
+
+// How many halves the cell has, and whether a copy has its region and its point.
+fn copied(alloc: Global, cell: &Cell) -> Result<(u32, bool, bool), Fail> {
+    let copy = cell.copy(alloc)?;
+    Ok((
+        copy.region().len(),
+        copy.region().same(cell.region()),
+        copy.sample() == cell.sample(),
+    ))
 }
 
 #[test]
 fn eighty_halves(rt: HostRuntime) -> Result<(), Fail> {
     let alloc = rt.alloc();
     let corners = [(-4, -4, 1), (4, -4, 1), (4, 4, 1), (-4, 4, 1)];
-    let mut halves = Vec::new(alloc);
-    let most = 1i64 << 38;
-    for i in 0..76u8 {
-        halves.push((
-            most - i64::from(i),
-            most - 77 * i64::from(i),
-            most,
-            Kind::Ge,
-        ))?;
-    }
-    let cell = cell_of(alloc, &corners, Kind::Ge, &halves)?;
-    assert!(rt; cell.is_some());
-    if let Some(cell) = cell {
-        assert_eq!(rt; cell.region().len(), 80);
-        let copy = cell.copy(alloc)?;
-        assert!(rt; copy.region().same(cell.region()));
-        assert_eq!(rt; copy.sample(), cell.sample());
-    }
+    let halves = many_halves(alloc)?;
+    let cell = cell_of(alloc, &corners, Kind::Ge, &halves)?.ok_or("it has a point")?;
+    assert_eq!(rt; copied(alloc, &cell)?, (80, true, true));
     Ok(())
 }
 
-// The least and the greatest value of a form.
-fn bounds_of(cell: &Cell, a: i64, b: i64, c: i64) -> Option<(Bound, Bound)> {
-    let form = Form::new(a, b, c)?;
-    Some((cell.low(&form), cell.high(&form)))
+// The edge y = 0 of the triangle, from (0, 0) to (1, 0), without its end at x = 1.
+const EDGE: Shape = (
+    &TRIANGLE,
+    Kind::Ge,
+    &[(0, -1, 0, Kind::Ge), (-1, 0, 1, Kind::Gt)],
+);
+
+// The point (4, 4).
+const POINT: Shape = (
+    &[(4, 4, 1), (0, 4, 1), (4, 0, 1)],
+    Kind::Ge,
+    &[(1, 1, -8, Kind::Ge)],
+);
+
+// The numerator and the denominator, not in lowest terms, and whether it is attained.
+type End = (i128, i128, bool);
+
+// A shape, and the bounds of x on it.
+const BOUNDS: [(Shape, End, End); 4] = [
+    (OPEN_CORNER, (0, 1, false), (1, 8, false)),
+    (CLOSED_CORNER, (0, 1, true), (1, 8, true)),
+    (EDGE, (0, 1, true), (1, 1, false)),
+    (POINT, (4, 1, true), (4, 1, true)),
+];
+
+fn is_end(bound: &Bound, end: End) -> bool {
+    let (num, den, attained) = end;
+    match (bound.num.checked_mul(den), num.checked_mul(bound.den)) {
+        (Some(left), Some(right)) => left == right && bound.attained == attained,
+        _ => false,
+    }
 }
 
-// Where the step leads, and the mirrored step.
-fn spans_of(cell: &Cell, a: i64, b: i64) -> Option<(Span, Span)> {
-    if a < -WIDEST || a > WIDEST || b < -WIDEST || b > WIDEST {
-        return None;
+// Whether x has these bounds on the shape.
+fn has_bounds(alloc: Global, shape: &Shape, low: End, high: End) -> Result<bool, Fail> {
+    let cell = cell(alloc, shape)?;
+    let x = Form::new(1, 0, 0).ok_or("it is a form")?;
+    Ok(is_end(&cell.low(&x), low) && is_end(&cell.high(&x), high))
+}
+
+// The place of the first row that isn't so; none where all are.
+fn first_other_bound(alloc: Global, rows: &[(Shape, End, End)]) -> Result<Option<usize>, Fail> {
+    for (i, (shape, low, high)) in rows.iter().enumerate() {
+        if !has_bounds(alloc, shape, *low, *high)? {
+            return Ok(Some(i));
+        }
     }
+    Ok(None)
+}
+
+#[test]
+fn bounds_of_cells(rt: HostRuntime) -> Result<(), Fail> {
+    assert_eq!(rt; first_other_bound(rt.alloc(), &BOUNDS)?, None);
+    Ok(())
+}
+
+// The ends of a span.
+type Ends = (i64, i64);
+
+// A shape, a pair, where the step leads, and the mirrored step. On the open corner x * 2^37 is above 0 and below 2^34, whole
+// or not; on the edge -floor(-x) is 0 at x = 0 and 1 above it, and the mirrored step is -floor(x) mirrored.
+const SPANS: [(Shape, (i64, i64), Ends, Ends); 10] = [
+    (OPEN_CORNER, (-1, 0), (1, 1), (0, 0)),
+    (
+        OPEN_CORNER,
+        (WIDEST, 0),
+        (1 - (1 << 34), 0),
+        (-(1 << 34), -1),
+    ),
+    (OPEN_CORNER, (-WIDEST, 0), (1, 1 << 34), (0, (1 << 34) - 1)),
+    (CLOSED_CORNER, (-1, 0), (0, 1), (0, 0)),
+    (CLOSED_CORNER, (1, 0), (0, 0), (-1, 0)),
+    (EDGE, (-1, 0), (0, 1), (0, 0)),
+    (EDGE, (0, 5), (0, 0), (0, 0)),
+    (POINT, (1, 1), (-8, -8), (-8, -8)),
+    (POINT, (WIDEST, -WIDEST), (0, 0), (0, 0)),
+    (
+        POINT,
+        (WIDEST, WIDEST),
+        (-(1 << 40), -(1 << 40)),
+        (-(1 << 40), -(1 << 40)),
+    ),
+];
+
+// A shape, a pair, and its links.
+const LINKS: [(Shape, (i64, i64), Ends); 2] = [
+    (OPEN_CORNER, (-1, 0), (0, 1)),
+    (OPEN_CORNER, (WIDEST, 0), (-(1 << 34), 0)),
+];
+
+fn is_span(span: &Span, ends: Ends) -> bool {
+    (span.low, span.high) == ends
+}
+
+// Whether the step and the mirrored step at (a, b) lead there.
+fn has_spans(cell: &Cell, a: i64, b: i64, ahead: Ends, back: Ends) -> bool {
     let w = V2 { a, b };
-    Some((cell.moves(w), cell.wmoves(w)))
+    is_narrow(w) && is_span(&cell.moves(w), ahead) && is_span(&cell.wmoves(w), back)
 }
 
-fn links_of(cell: &Cell, a: i64, b: i64) -> Option<Span> {
-    if a < -WIDEST || a > WIDEST || b < -WIDEST || b > WIDEST {
-        return None;
+fn has_links(cell: &Cell, a: i64, b: i64, links: Ends) -> bool {
+    let w = V2 { a, b };
+    is_narrow(w) && is_span(&cell.links(w), links)
+}
+
+// The place of the first row that isn't so; none where all are.
+fn first_other_span(
+    alloc: Global,
+    rows: &[(Shape, (i64, i64), Ends, Ends)],
+) -> Result<Option<usize>, Fail> {
+    for (i, (shape, (a, b), ahead, back)) in rows.iter().enumerate() {
+        if !has_spans(&cell(alloc, shape)?, *a, *b, *ahead, *back) {
+            return Ok(Some(i));
+        }
     }
-    Some(cell.links(V2 { a, b }))
+    Ok(None)
 }
 
-fn span(low: i64, high: i64) -> Span {
-    Span { low, high }
+// The same of links.
+fn first_other_link(
+    alloc: Global,
+    rows: &[(Shape, (i64, i64), Ends)],
+) -> Result<Option<usize>, Fail> {
+    for (i, (shape, (a, b), links)) in rows.iter().enumerate() {
+        if !has_links(&cell(alloc, shape)?, *a, *b, *links) {
+            return Ok(Some(i));
+        }
+    }
+    Ok(None)
 }
 
 #[test]
-fn open_corner_triangle(rt: HostRuntime) -> Result<(), Fail> {
-    let alloc = rt.alloc();
-    let cell = cell_of(alloc, &CORNER, Kind::Gt, &[])?;
-    assert!(rt; cell.is_some());
-    if let Some(cell) = cell {
-        let x = bounds_of(&cell, 1, 0, 0);
-        assert!(rt; x.is_some());
-        if let Some((low, high)) = x {
-            assert_eq!(rt; low.num, 0);
-            assert!(rt; !low.attained);
-            assert_eq!(rt; high.num.checked_mul(8), Some(high.den));
-            assert!(rt; !high.attained);
-        }
-        assert_eq!(rt; spans_of(&cell, -1, 0), Some((span(1, 1), span(0, 0))));
-        assert_eq!(rt; links_of(&cell, -1, 0), Some(span(0, 1)));
-        assert_eq!(rt; links_of(&cell, WIDEST, 0), Some(span(-(1 << 34), 0)));
-        // x * 2^37 is above 0 and below 2^34, whole or not
-        assert_eq!(rt;
-            spans_of(&cell, WIDEST, 0),
-            Some((span(1 - (1 << 34), 0), span(-(1 << 34), -1)))
-        );
-        assert_eq!(rt;
-            spans_of(&cell, -WIDEST, 0),
-            Some((span(1, 1 << 34), span(0, (1 << 34) - 1)))
-        );
-    }
+fn steps_on_cells(rt: HostRuntime) -> Result<(), Fail> {
+    assert_eq!(rt; first_other_span(rt.alloc(), &SPANS)?, None);
     Ok(())
 }
 
 #[test]
-fn closed_corner_triangle(rt: HostRuntime) -> Result<(), Fail> {
-    let alloc = rt.alloc();
-    let cell = cell_of(alloc, &CORNER, Kind::Ge, &[])?;
-    assert!(rt; cell.is_some());
-    if let Some(cell) = cell {
-        let x = bounds_of(&cell, 1, 0, 0);
-        assert!(rt; x.is_some());
-        if let Some((low, high)) = x {
-            assert_eq!(rt; low.num, 0);
-            assert!(rt; low.attained);
-            assert_eq!(rt; high.num.checked_mul(8), Some(high.den));
-            assert!(rt; high.attained);
-        }
-        assert_eq!(rt; spans_of(&cell, -1, 0), Some((span(0, 1), span(0, 0))));
-        assert_eq!(rt; spans_of(&cell, 1, 0), Some((span(0, 0), span(-1, 0))));
-    }
-    Ok(())
-}
-
-#[test]
-fn bounds_of_thin_cells(rt: HostRuntime) -> Result<(), Fail> {
-    let alloc = rt.alloc();
-    // the edge y = 0 of the triangle, from (0, 0) to (1, 0), without its end at x = 1
-    let edge = cell_of(
-        alloc,
-        &TRIANGLE,
-        Kind::Ge,
-        &[(0, -1, 0, Kind::Ge), (-1, 0, 1, Kind::Gt)],
-    )?;
-    assert!(rt; edge.is_some());
-    if let Some(edge) = edge {
-        let x = bounds_of(&edge, 1, 0, 0);
-        assert!(rt; x.is_some());
-        if let Some((low, high)) = x {
-            assert!(rt; low.num == 0 && low.attained);
-            assert!(rt; high.num == high.den && !high.attained);
-        }
-        // -floor(-x) is 0 at x = 0 and 1 above it; the mirrored step is -floor(x) mirrored
-        assert_eq!(rt; spans_of(&edge, -1, 0), Some((span(0, 1), span(0, 0))));
-        assert_eq!(rt; spans_of(&edge, 0, 5), Some((span(0, 0), span(0, 0))));
-    }
-    // the point (4, 4)
-    let corners = [(4, 4, 1), (0, 4, 1), (4, 0, 1)];
-    let point = cell_of(alloc, &corners, Kind::Ge, &[(1, 1, -8, Kind::Ge)])?;
-    assert!(rt; point.is_some());
-    if let Some(point) = point {
-        assert_eq!(rt; spans_of(&point, 1, 1), Some((span(-8, -8), span(-8, -8))));
-        assert_eq!(rt;
-            spans_of(&point, WIDEST, -WIDEST),
-            Some((span(0, 0), span(0, 0)))
-        );
-        assert_eq!(rt;
-            spans_of(&point, WIDEST, WIDEST),
-            Some((span(-(1 << 40), -(1 << 40)), span(-(1 << 40), -(1 << 40))))
-        );
-    }
+fn links_on_cells(rt: HostRuntime) -> Result<(), Fail> {
+    assert_eq!(rt; first_other_link(rt.alloc(), &LINKS)?, None);
     Ok(())
 }

@@ -12,3 +12,5 @@ mod cuts;
 mod orbits;
 #[cfg(test)]
 mod polygons;
+#[cfg(test)]
+mod shapes;
