@@ -25,12 +25,11 @@ use Rattle.srs_file.specs.Sayings.{said_text}
 use Rattle.srs_check.specs.Builds.{IsBuilt}
 use Rattle.srs_check.proofs.BuiltAnswers.{built_holds, built_met}
 use Rattle.srs_tool.specs.Replies.{Replies, AreReplies, IsReplyText, AddsReply, IsAsked, AreAsked}
-use Rattle.srs_tool.proofs.Certifying.{few_halves}
 
 asked_of : (text : List ℕ) (query : Query) → IsQuestion text query → IsAsked query
 asked_of text (Point r) is = tt
-asked_of text (Polygon q) is = few_halves is.0 q is.1.counted is.2
-asked_of text (Orbit r z n) is = is.0
+asked_of text (Polygon q) is = tt
+asked_of text (Orbit r z n) is = tt
 asked_of text Fresh is = absurd is
 asked_of text Count is = absurd is
 

@@ -1,5 +1,5 @@
 -- What is said to the questions about a certificate.
-use Rattle.std.specs.Prelude.{◌≡◌, ⊤, ℕ, ◌≤◌, List, [], ◌∷◌, ◌++◌, length, slice_get, Some}
+use Rattle.std.specs.Prelude.{◌≡◌, ⊤, ℕ, List, [], ◌∷◌, ◌++◌, slice_get, Some}
 use Rattle.std.specs.List.{flat_map}
 use Rattle.srs_map.specs.declared.orbits.OrbitEnd.{OrbitEnd}
 use Rattle.srs_map.specs.Orbits.{IsOrbitEnd}
@@ -13,7 +13,6 @@ use Rattle.srs_tree.specs.declared.queries.Said.TheVariants.{Point as SaysPoint,
 use Rattle.srs_tree.specs.Tree.{outcome_at}
 use Rattle.srs_tree.specs.Answers.{Answers, IsMet}
 use Rattle.srs_file.specs.Certificates.{CertView}
-use Rattle.srs_file.specs.Questions.{IsOrbitAsked}
 use Rattle.srs_file.specs.Sayings.{said_text}
 
 -- What is said to the question: the answer at a point over the certificate's events, with the cause of its node; for each
@@ -42,11 +41,11 @@ pub record IsReplyText (c : CertView) (queries : List Query) (text : List ℕ) :
 abbrev pub AddsReply : CertView → Query → List ℕ → List ℕ → Type 0
 AddsReply c query before after = (said : Said) × Replies c query said × (after ≡ before ++ said_text said)
 
--- a question that a file can have
+-- the question is one about a certificate: not for a newer version, nor for a count
 abbrev pub IsAsked : Query → Type 0
 IsAsked (Point r) = ⊤
-IsAsked (Polygon q) = length q ≤ 16
-IsAsked (Orbit r z n) = IsOrbitAsked r z n
+IsAsked (Polygon q) = ⊤
+IsAsked (Orbit r z n) = ⊤
 IsAsked Fresh = ⊥
 IsAsked Count = ⊥
 

@@ -2,6 +2,7 @@
 ghost use Rattle.std.specs.Prelude.{◌≡◌, ◌≤◌, ◌<◌, ◌^◌, ◌++◌, length, IfOk, OnOk};
 ghost use Rattle.srs_plane.specs.Polygons.{region_of};
 ghost use Rattle.srs_tree.specs.declared.queries.Query.TheVariants.{Point as AsksPoint, Polygon as AsksPolygon};
+ghost use Rattle.srs_tree.specs.Questions.{IsAskable};
 ghost use Rattle.srs_tree.specs.Tree.{outcome_at};
 ghost use Rattle.srs_tree.specs.Answers.{Answers, reply_of, reply_by};
 ghost use Rattle.srs_file.specs.Grammar.{SpellsAsk};
@@ -110,6 +111,7 @@ fn put_reply<L: Ledger>(
 ) -> Result<(), NoMemory>
     requires built { IsBuilt cert.now version.now }
     requires asked { IsAsked query.now }
+    requires askable { IsAskable query.now }
     ensures { OnOk result (AddsReply cert.now query.now text.old text.new) }
 {
     match query {
