@@ -1,5 +1,5 @@
 -- What one more pair makes of those found.
-use Rattle.std.proofs.Common.{◌≡◌, ◌≢◌, ◌⊎◌, inl, inr, zero, suc, ◌^◌, ◌≤◌, List, [], ◌∷◌, ◌++◌, Bool, true, false, IsTrue, arith, ap, subst, sym, ◌∙◌, refl, lit<, lit≤, pos, append_assoc, length-append}
+use Rattle.std.proofs.Common.{◌≡◌, ◌≢◌, ◌⊎◌, inl, inr, zero, suc, ◌^◌, ◌≤◌, List, [], ◌∷◌, ◌++◌, Bool, true, false, IsTrue, arith, ap, subst, sym, ◌∙◌, refl, lit<, pos, append_assoc, length-append}
 use Rattle.std.specs.Prelude.{Contains, AllPairs, if◌then◌else◌, not, Result, Ok, Err, OnOk, IfOk}
 use Rattle.std.specs.List.{list_any, IsDistinct}
 use Rattle.std.proofs.lemmas.Bool.{false≢true}
@@ -10,7 +10,7 @@ use Rattle.std.proofs.lemmas.Map.Views.{Contains-from_any}
 use Rattle.indexmap.specs.IndexSet.{insert_key}
 use Rattle.srs_num.specs.declared.pairs.V2.{V2}
 use Rattle.srs_num.proofs.Ranges.{within_opposite}
-use Rattle.srs_map.specs.Step.{pair, minus, origin, IsNarrow}
+use Rattle.srs_map.specs.Step.{pair, minus, IsNarrow}
 use Rattle.srs_map.specs.Links.{right, left, up, down}
 use Rattle.srs_plane.specs.Regions.{Area}
 use Rattle.srs_path.specs.Witnesses.{IsWitness, unit}
@@ -88,21 +88,6 @@ module _ (old : List V2) (was : Bool) (v u : V2) (new : List V2) (e : new ≡ in
       narrow = n;
       few = rw grown (omega (arith, length-append old (u ∷ [])));
     }
-
--- (0, 0) is met
-pub adds_origin : (old : List V2) (was : Bool) (v : V2) (met : Bool) (waited : List V2) → met ≡ true → v ≡ origin → Adds old was v old met waited waited
-adds_origin old was v met waited m e = record {
-  more = [];
-  is = sym (append-nil old);
-  waits = sym (append-nil waited);
-  here = inr (inr (e, m));
-  others = λ w c. inl c;
-  center = λ t. inr e;
-  stays = λ t. m;
-  different = λ d. d;
-  narrow = subst IsNarrow (sym e) (lit≤ tt, lit≤ tt);
-  few = rw m (omega arith);
-}
 
 module _ (R : Area) where
   pub none_half : (met : Bool) → met ≡ false → AreHalf R [] met

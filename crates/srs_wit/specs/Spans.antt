@@ -1,5 +1,5 @@
 -- The pairs that one pair links to.
-use Rattle.std.specs.Prelude.{◌≡◌, ℕ, ◌<◌, ◌≤◌, ◌^◌, ℤ, pos, ◌+ℤ◌, ◌≤ℤ◌, ◌<ℤ◌, List, map}
+use Rattle.std.specs.Prelude.{◌≡◌, ℕ, ◌+◌, ◌-◌, Bool, if◌then◌else◌, ◌<◌, ◌≤◌, ◌^◌, ℤ, pos, ◌+ℤ◌, ◌≤ℤ◌, ◌<ℤ◌, List, map}
 use Rattle.std.specs.List.{range_with_len}
 use Rattle.srs_num.specs.declared.pairs.V2.{V2}
 use Rattle.srs_map.specs.Step.{pair, IsNarrow}
@@ -9,6 +9,10 @@ pub record IsCount (low high : ℤ) (n : ℕ) : Type 0 where
   pub past : high <ℤ (low +ℤ pos n)
   pub within : (k : ℕ) → k < n → (low +ℤ pos k) ≤ℤ high
   pub small : n ≤ 2 ^ 43
+
+-- the place of the kth of n pairs, from the first one on or from the last one back
+abbrev pub place_in : Bool → ℕ → ℕ → ℕ
+place_in back n k = if back then n - (k + 1) else k
 
 -- the pair that begins with the second entry of w and ends k above low
 abbrev pub pair_from : V2 → ℤ → ℕ → V2

@@ -11,7 +11,7 @@ ghost use Rattle.srs_wit.specs.Search.{AreHalf, AreFound, Adds, Extends, IsClose
 
 use crate::halves::{upper, with_opposites};
 use crate::sets::{Big, WitErr, WitSet};
-use crate::spans::{count, first_pairs, pair_at, wide_end};
+use crate::spans::{count, first_pairs, is_downward, pair_at, place, wide_end};
 use indexmap::IndexSet;
 use srs_cell::{Cell, Span};
 use srs_num::{NoMemory, Pairs, V2};
@@ -187,15 +187,18 @@ impl Search {
         if let Some(v) = wide_end(w, span) {
             return Err(Stop::Wide(v));
         }
+        // The pair with the greatest second entry in magnitude comes last, so that its links are followed first: where there
+        // are too many witnesses, this way outwards mostly meets them sooner.
+        let back = is_downward(span);
         for k in 0..n {
-            let Ok(()) = self.add(pair_at(w, span, k)) else {
+            let Ok(()) = self.add(pair_at(w, span, place(back, n, k))) else {
                 return Err(Stop::NoMemory);
             };
         }
         self.within(bound)
     }
 
-    // Finds all witnesses. The newest pair goes first: where there are too many, this way mostly meets them sooner.
+    // Finds all witnesses. The newest pair goes first.
     fn find_all(&mut self, cell: &Cell, bound: u32) -> Result<(), Stop>
         requires found { IsEmpty self.old.found }
         requires origin { self.old.origin ≡ false }

@@ -1,8 +1,8 @@
 // The pairs that one pair links to: all begin with its second entry, and their second entries make one span.
-ghost use Rattle.std.specs.Prelude.{◌≡◌, ◌≤◌, ◌<◌, ◌^◌, ◌↔◌, IsTrue, IfOk, MatchOption};
+ghost use Rattle.std.specs.Prelude.{◌≡◌, ◌≤◌, ◌<◌, ◌^◌, ◌↔◌, pos, ◌+ℤ◌, ◌<ℤ◌, IsTrue, IfOk, MatchOption};
 ghost use Rattle.srs_num.specs.Points.{IsWithin};
 ghost use Rattle.srs_map.specs.Step.{IsNarrow};
-ghost use Rattle.srs_wit.specs.Spans.{IsCount, pair_from, pairs_from, ArePairsNarrow, IsWideAmong};
+ghost use Rattle.srs_wit.specs.Spans.{IsCount, place_in, pair_from, pairs_from, ArePairsNarrow, IsWideAmong};
 
 use srs_cell::Span;
 use srs_map::is_narrow;
@@ -32,6 +32,24 @@ pub(crate) fn pair_at(w: V2, span: Span, k: u64) -> V2
         a: w.b,
         b: span.low + k as i64,
     }
+}
+
+// Whether the first number of the span is greater in magnitude than the last one.
+pub(crate) fn is_downward(span: Span) -> bool
+    requires low { IsWithin (2 ^ 41) span.low }
+    requires high { IsWithin (2 ^ 41) span.high }
+    ensures { IsTrue result ↔ ((span.low +ℤ span.high) <ℤ pos 0) }
+{
+    span.low + span.high < 0
+}
+
+// The place of the `k`th of `n` pairs, from the first one on or, where `back` says so, from the last one back.
+pub(crate) fn place(back: bool, n: u64, k: u64) -> u64
+    requires { k < n }
+    ensures place { result ≡ place_in back n k }
+    ensures within { result < n }
+{
+    if back { n - 1 - k } else { k }
 }
 
 // A pair of the span of `w` with an entry past 2^37, if there is one: then one of the two ends is such a pair.
