@@ -1,5 +1,5 @@
 -- A version that grows by the events of a certificate.
-use Rattle.std.proofs.Common.{◌≡◌, ℕ, ◌+◌, ◌≤◌, ◌<◌, true, false, cond, List, [], ◌∷◌, ◌++◌, map, length, take, slice_get, refl, sym, ap, subst, ◌∙◌, arith}
+use Rattle.std.proofs.Common.{◌≡◌, ℕ, ◌+◌, ◌≤◌, true, false, cond, List, [], ◌∷◌, ◌++◌, map, length, take, slice_get, refl, sym, ap, subst, ◌∙◌, arith}
 use Rattle.std.proofs.lemmas.Option.{slice_get_within, get_or_from_slice_get}
 use Rattle.std.proofs.lemmas.List.{take_all, map-append}
 use Rattle.std.specs.FinMap as finite
@@ -12,16 +12,16 @@ use Rattle.srs_path.specs.declared.paths.Side.{Side}
 use Rattle.srs_path.specs.declared.outcomes.Outcome.{Outcome}
 use Rattle.srs_path.specs.declared.outcomes.Outcome.TheVariants.{Inside, Outside, Cut, Left}
 use Rattle.srs_path.specs.Views.{Budget, Entry}
-use Rattle.srs_tree.specs.Tree.{History, Tree, path_eq, outcome_at, IsCellOf, region_at}
+use Rattle.srs_tree.specs.Tree.{History, path_eq, outcome_at, IsCellOf, region_at}
 use Rattle.srs_tree.specs.Growth.{IsProvedOf, IsOpenIn, IsShortCut}
 use Rattle.srs_tree.specs.WholeTrees.{AllowsAt}
 use Rattle.srs_tree.specs.Snapshots.{Snapshot, tree_of, with_entry, StandsFor}
 use Rattle.srs_tree.proofs.StandsLemmas.{Stands-empty, Stands-append}
 use Rattle.srs_file.specs.Certificates.{CertView, IsCertificate}
-use Rattle.srs_file.proofs.Preordered.{AreOpenAfter, here_first, take_here, Takes, walked_takes}
+use Rattle.srs_file.proofs.Preordered.{here_first, take_here, Takes, walked_takes}
 use Rattle.srs_check.specs.Proving.{Proves, IsProved, cell_at}
 use Rattle.srs_check.specs.Certified.{IsCertified}
-use Rattle.srs_check.specs.Tested.{IsGoodLeaf, IsDivided}
+use Rattle.srs_check.specs.Tested.{IsDivided}
 use Rattle.srs_check.specs.Builds.{as_built, built_in, IsBuilt}
 use Rattle.srs_check.proofs.Cuts.{cuts_of, cut_in, outcome_at-cuts, cell_forth, cell_back, region_same, region_then, legal_upto}
 use Rattle.srs_check.proofs.WalkStates.{WalkState, walk_first, walk_leaf, walk_cut, cell_is}
