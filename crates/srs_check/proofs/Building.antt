@@ -1,5 +1,5 @@
 -- A version that grows by the events of a certificate.
-use Rattle.std.proofs.Common.{◌≡◌, ℕ, ◌+◌, ◌≤◌, true, false, cond, List, [], ◌∷◌, ◌++◌, map, length, take, slice_get, refl, sym, ap, subst, ◌∙◌, arith}
+use Rattle.std.proofs.Common.{◌≡◌, inr, ℕ, ◌+◌, ◌<◌, ◌≤◌, Bool, true, false, cond, List, [], ◌∷◌, ◌++◌, map, length, take, slice_get, refl, sym, ap, ap₂, subst, ◌∙◌, arith}
 use Rattle.std.proofs.lemmas.Option.{slice_get_within, get_or_from_slice_get}
 use Rattle.std.proofs.lemmas.List.{take_all, map-append}
 use Rattle.std.specs.FinMap as finite
@@ -7,24 +7,28 @@ use Rattle.std.specs.declared.option.Option.{Option}
 use Rattle.std.specs.declared.option.Option.TheVariants.{Some, None}
 use Rattle.srs_num.specs.Points.{LinearForm}
 use Rattle.srs_plane.specs.Polygons.{region_of}
-use Rattle.srs_plane.specs.Regions.{Area, Divides}
+use Rattle.srs_plane.specs.Regions.{Area}
 use Rattle.srs_path.specs.declared.paths.Side.{Side}
+use Rattle.srs_path.specs.declared.paths.Side.TheVariants.{Ge, Lt}
 use Rattle.srs_path.specs.declared.outcomes.Outcome.{Outcome}
 use Rattle.srs_path.specs.declared.outcomes.Outcome.TheVariants.{Inside, Outside, Cut, Left}
 use Rattle.srs_path.specs.Views.{Budget, Entry}
-use Rattle.srs_tree.specs.Tree.{History, path_eq, outcome_at, IsCellOf, region_at}
+use Rattle.srs_tree.specs.Queue.{WaitingCell, cell_in}
+use Rattle.srs_tree.specs.Rounds.{parts_by}
+use Rattle.srs_tree.specs.Tree.{History, Tree, path_eq, outcome_at, IsCellOf, region_at}
 use Rattle.srs_tree.specs.Growth.{IsProvedOf, IsOpenIn, IsShortCut}
 use Rattle.srs_tree.specs.WholeTrees.{AllowsAt}
 use Rattle.srs_tree.specs.Snapshots.{Snapshot, tree_of, with_entry, StandsFor}
-use Rattle.srs_tree.proofs.StandsLemmas.{Stands-empty, Stands-append}
+use Rattle.srs_tree.proofs.HistoryLemmas.{path_eq_same}
+use Rattle.srs_tree.proofs.StandsLemmas.{path_total, ties, Stands-empty, Stands-append}
 use Rattle.srs_file.specs.Certificates.{CertView, IsCertificate}
 use Rattle.srs_file.proofs.Preordered.{here_first, take_here, Takes, walked_takes}
-use Rattle.srs_check.specs.Proving.{Proves, IsProved, cell_at}
-use Rattle.srs_check.specs.Certified.{IsCertified}
-use Rattle.srs_check.specs.Tested.{IsDivided}
+use Rattle.srs_check.specs.declared.faults.Fault.{Fault}
+use Rattle.srs_check.specs.Faults.{Fails, IsFaultOf}
+use Rattle.srs_check.specs.Proving.{Proves, cell_at}
 use Rattle.srs_check.specs.Builds.{as_built, built_in, IsBuilt}
 use Rattle.srs_check.proofs.Cuts.{cuts_of, cut_in, outcome_at-cuts, cell_forth, cell_back, region_same, region_then, legal_upto}
-use Rattle.srs_check.proofs.WalkStates.{WalkState, walk_first, walk_leaf, walk_cut, cell_is}
+use Rattle.srs_check.proofs.WalkStates.{AreGood, WalkState, good_more, good_divides, walk_first, walk_good, walk_next, walk_fault, cell_is}
 
 abbrev pub built_event : Entry → Entry
 built_event e = record { path = e.path; outcome = as_built e.outcome }
@@ -47,9 +51,13 @@ same_cuts (Some (Outside cycle)) = refl
 same_cuts (Some (Cut h)) = refl
 same_cuts (Some (Left cause)) = refl
 
+-- the regions of cells that wait
+abbrev pub regions_of : List WaitingCell → List Area
+regions_of = map (λ w. w.region)
+
 -- before event i: the walk has come to it, and the version stands for the events before
-pub record GrownTo (c : CertView) (i : ℕ) (cells : List Area) (v : Snapshot) : Type 0 where
-  pub walk : WalkState c i cells
+pub record GrownTo (c : CertView) (i : ℕ) (cells : List WaitingCell) (v : Snapshot) : Type 0 where
+  pub walk : WalkState c i (regions_of cells)
   pub stands : StandsFor (region_of c.vertices) (built_of (take i c.events)) v
 
 short_cut : (b : Budget) (p : List Side) (o : Outcome) → b.depth ≤ 48 → AllowsAt b (length p) o → IsShortCut p o
@@ -64,69 +72,95 @@ cut_is_short c i e is at =
     let keeps = subst (λ (x : Entry). AllowsAt c.limits (length x.path) x.outcome) (get_or_from_slice_get c.events i e e at) (is.within.each i e (slice_get_within c.events i e at)) in
     short_cut c.limits e.path e.outcome is.limits_are.depth keeps
 
-module _ (c : CertView) (is : IsCertificate c) (proved : IsProved c) where
-  cuts_divide : (i : ℕ) (e : Entry) (h : LinearForm) → slice_get c.events i ≡ Some e → e.outcome ≡ Cut h → Divides (cell_at c e.path) h
-  cuts_divide i e h at q = subst (λ (o : Outcome). Proves (cell_at c e.path) c.limits c.events (length e.path) o) q (proved i e at)
+entry_here : (v : Snapshot) (p : List Side) (o : Outcome) → tree_of (with_entry v p o) p ≡ Some o
+entry_here v p o = finite.get-insert path_total v.entries p o p ∙ ap (λ (b : Bool). cond b (Some o) (tree_of v p)) (ties p p ∙ path_eq_same p)
 
-  module _ (i : ℕ) (R : Area) (rest : List Area) (v : Snapshot) (s : GrownTo c i (R ∷ rest) v) (e : Entry) (at : slice_get c.events i ≡ Some e) where
-    abbrev G : History
-    G = take i c.events
+module _ (c : CertView) (is : IsCertificate c) (i : ℕ) (l : i ≤ length c.events) (good : AreGood c i) (v : Snapshot) (stands : StandsFor (region_of c.vertices) (built_of (take i c.events)) v) where
+  abbrev G : History
+  G = take i c.events
 
-    t : Takes c.events i s.walk.waiting e
-    t = walked_takes c.events i s.walk.waiting e s.walk.walked at
+  has : (p : List Side) → tree_of v p ≡ built_in (outcome_at G p)
+  has p = stands.entries p ∙ outcome_at-built G p
 
-    has : (p : List Side) → tree_of v p ≡ built_in (outcome_at G p)
-    has p = s.stands.entries p ∙ outcome_at-built G p
+  cuts_are : (p : List Side) → outcome_at (cuts_of G) p ≡ cut_in (tree_of v p)
+  cuts_are p = outcome_at-cuts G p ∙ sym (ap cut_in (has p) ∙ same_cuts (outcome_at G p))
 
-    cuts_are : (p : List Side) → outcome_at (cuts_of G) p ≡ cut_in (tree_of v p)
-    cuts_are p = outcome_at-cuts G p ∙ sym (ap cut_in (has p) ∙ same_cuts (outcome_at G p))
+  -- a cell of the version has the region that the certificate says
+  same_cell : (p : List Side) → IsCellOf (tree_of v) p → region_at v.region (tree_of v) p ≡ cell_at c p
+  same_cell p cell =
+      ap (λ (A : Area). region_at A (tree_of v) p) stands.region
+      ∙ sym (region_same (outcome_at (cuts_of G)) (tree_of v) cuts_are (region_of c.vertices) p)
+      ∙ region_then (region_of c.vertices) c.events is.tree i (legal_upto (region_of c.vertices) c.events is.tree i l (good_divides c i good)) p (cell_forth (outcome_at (cuts_of G)) (tree_of v) cuts_are p cell)
 
-    fresh : outcome_at G e.path ≡ None
-    fresh = t.is_open.fresh e.path (here_first e.path t.rest)
+module _ (c : CertView) (is : IsCertificate c) (i : ℕ) (w : WaitingCell) (rest : List WaitingCell) (v : Snapshot) (s : GrownTo c i (w ∷ rest) v) (e : Entry) (at : slice_get c.events i ≡ Some e) where
+  early : i < length c.events
+  early = slice_get_within c.events i e at
 
-    cut_cell : IsCellOf (outcome_at (cuts_of G)) e.path
-    cut_cell = cell_forth (outcome_at (cuts_of G)) (outcome_at G) (outcome_at-cuts G) e.path (t.is_open.cells e.path (here_first e.path t.rest))
+  t : Takes c.events i s.walk.waiting e
+  t = walked_takes c.events i s.walk.waiting e s.walk.walked at
 
-    pub cell_is_open : IsOpenIn (tree_of v) e.path
-    cell_is_open = record { cell = cell_back (outcome_at (cuts_of G)) (tree_of v) cuts_are e.path cut_cell; open_yet = has e.path ∙ ap built_in fresh }
+  fresh : outcome_at (take i c.events) e.path ≡ None
+  fresh = t.is_open.fresh e.path (here_first e.path t.rest)
 
-    pub same_region : R ≡ region_at v.region (tree_of v) e.path
-    same_region =
-        let legal = legal_upto (region_of c.vertices) c.events is.tree cuts_divide i (omega (arith, slice_get_within c.events i e at)) in
-        cell_is c i R rest s.walk e at
-        ∙ sym (region_then (region_of c.vertices) c.events is.tree cuts_divide i legal e.path cut_cell)
-        ∙ region_same (outcome_at (cuts_of G)) (tree_of v) cuts_are (region_of c.vertices) e.path
-        ∙ ap (λ (A : Area). region_at A (tree_of v) e.path) (sym s.stands.region)
+  pub cell_is_open : IsOpenIn (tree_of v) e.path
+  cell_is_open =
+      let S : Tree = outcome_at (cuts_of (take i c.events)) in
+      let there : IsCellOf S e.path = cell_forth S (outcome_at (take i c.events)) (outcome_at-cuts (take i c.events)) e.path (t.is_open.cells e.path (here_first e.path t.rest)) in
+      record {
+        cell = cell_back S (tree_of v) (cuts_are c is i (omega (arith, early)) s.walk.good v s.stands) e.path there;
+        open_yet = has c is i (omega (arith, early)) s.walk.good v s.stands e.path ∙ ap built_in fresh;
+      }
 
-    pub proved_here : IsCertified c → IsProvedOf R e.outcome
-    proved_here certified = subst (λ (A : Area). IsProvedOf A e.outcome) (sym (cell_is c i R rest s.walk e at)) (certified.sound i e at)
+  pub same_region : w.region ≡ region_at v.region (tree_of v) e.path
+  same_region = cell_is c i w.region (regions_of rest) s.walk e at ∙ sym (same_cell c is i (omega (arith, early)) s.walk.good v s.stands e.path cell_is_open.cell)
 
-    stands_next : StandsFor (region_of c.vertices) (built_of (take (i + 1) c.events)) (with_entry v e.path (as_built e.outcome))
+  pub built_fault : (fault : Fault) → Fails w.region c.limits c.events (length e.path) e.outcome fault → IsFaultOf c i fault
+  built_fault fault wrong = walk_fault c i w.region (regions_of rest) s.walk e at fault wrong
+
+  module _ (proves : Proves w.region c.limits c.events (length e.path) e.outcome) (sound : IsProvedOf w.region e.outcome) where
+    abbrev after : Snapshot
+    after = with_entry v e.path (as_built e.outcome)
+
+    stands_next : StandsFor (region_of c.vertices) (built_of (take (i + 1) c.events)) after
     stands_next =
-        let more : built_of (take (i + 1) c.events) ≡ built_of G ++ built_event e ∷ [] = ap built_of (take_here c.events i e at) ∙ map-append built_event G (e ∷ []) in
-        subst (λ (K : History). StandsFor (region_of c.vertices) K (with_entry v e.path (as_built e.outcome))) (sym more)
-        (Stands-append (region_of c.vertices) (built_of G) v (built_event e) s.stands (outcome_at-built G e.path ∙ ap built_in fresh))
+        let more : built_of (take (i + 1) c.events) ≡ built_of (take i c.events) ++ built_event e ∷ [] = ap built_of (take_here c.events i e at) ∙ map-append built_event (take i c.events) (e ∷ []) in
+        subst (λ (K : History). StandsFor (region_of c.vertices) K after) (sym more)
+        (Stands-append (region_of c.vertices) (built_of (take i c.events)) v (built_event e) s.stands (outcome_at-built (take i c.events) e.path ∙ ap built_in fresh))
 
-    pub grown_leaf : IsCertified c → ((h : LinearForm) → e.outcome ≡ Cut h → ⊥) → GrownTo c (i + 1) rest (with_entry v e.path (as_built e.outcome))
-    grown_leaf certified plain = record {
-      walk = walk_leaf c i R rest s.walk e at (record {
-        no_cut = plain;
-        proves = subst (λ (A : Area). Proves A c.limits c.events (length e.path) e.outcome) (sym (cell_is c i R rest s.walk e at)) (proved i e at);
-        sound = proved_here certified;
-      });
+    good_next : AreGood c (i + 1)
+    good_next = good_more c i e at s.walk.good (walk_good c i w.region (regions_of rest) s.walk e at proves sound)
+
+    -- the part on a side of a cut
+    part_is : (h : LinearForm) (side : Side) → e.outcome ≡ Cut h → region_at after.region (tree_of after) (e.path ++ side ∷ []) ≡ cell_at c (e.path ++ side ∷ [])
+    part_is h side q =
+        let cut : tree_of after e.path ≡ Some (Cut h) = entry_here v e.path (as_built e.outcome) ∙ ap (λ (o : Outcome). Some (as_built o)) q in
+        same_cell c is (i + 1) (omega (arith, early)) good_next after stands_next (e.path ++ side ∷ []) (inr (record { parent = e.path; side = side; form = h; is = refl; cut = cut }))
+
+    parts_are : (o : Outcome) → e.outcome ≡ o → regions_of (map (cell_in after) (parts_by e.path (as_built o))) ≡ map (cell_at c) (parts_by e.path o)
+    parts_are (Inside ranks) q = refl
+    parts_are (Outside cycle) q = refl
+    parts_are (Cut h) q = ap₂ (λ (x y : Area). x ∷ y ∷ []) (part_is h Ge q) (part_is h Lt q)
+    parts_are (Left cause) q = refl
+
+    grown_after : (parts : List WaitingCell) → parts ≡ map (cell_in after) (parts_by e.path (as_built e.outcome)) → GrownTo c (i + 1) (parts ++ rest) after
+    grown_after parts are = record {
+      walk = subst (WalkState c (i + 1)) (sym (map-append (λ (x : WaitingCell). x.region) parts rest))
+          (walk_next c i w.region (regions_of rest) s.walk e at proves sound (regions_of parts) (ap regions_of are ∙ parts_are e.outcome refl));
       stands = stands_next;
     }
 
-    pub grown_cut : (x y : Area) → IsDivided R e.outcome x y → GrownTo c (i + 1) (x ∷ y ∷ rest) (with_entry v e.path (as_built e.outcome))
-    grown_cut x y d = record { walk = walk_cut c i R rest s.walk e at x y d; stands = stands_next }
+    -- the event is entered, and its parts come before the other cells
+    pub grown_next : (u : Snapshot) → u ≡ after → (parts : List WaitingCell) → parts ≡ map (cell_in u) (parts_by e.path (as_built e.outcome)) → GrownTo c (i + 1) (parts ++ rest) u
+    grown_next u entered parts are =
+        subst (GrownTo c (i + 1) (parts ++ rest)) (sym entered) (grown_after parts (are ∙ ap (λ (x : Snapshot). map (cell_in x) (parts_by e.path (as_built e.outcome))) entered))
 
-pub grown_first : (c : CertView) (root : Area) (v : Snapshot) → IsCertificate c → root ≡ region_of c.vertices → v ≡ record { region = root; entries = finite.empty } → GrownTo c 0 (root ∷ []) v
+pub grown_first : (c : CertView) (root : WaitingCell) (v : Snapshot) → IsCertificate c → root.region ≡ region_of c.vertices → v ≡ record { region = region_of c.vertices; entries = finite.empty } → GrownTo c 0 (root ∷ []) v
 grown_first c root v is e q = record {
-  walk = walk_first c root is e;
-  stands = subst (StandsFor (region_of c.vertices) []) (sym (q ∙ ap (λ (R : Area). let w : Snapshot = record { region = R; entries = finite.empty } in w) e)) (Stands-empty (region_of c.vertices));
+  walk = walk_first c root.region is e;
+  stands = subst (StandsFor (region_of c.vertices) []) (sym q) (Stands-empty (region_of c.vertices));
 }
 
-pub grown_last : (c : CertView) (i : ℕ) (cells : List Area) (v : Snapshot) → GrownTo c i cells v → length c.events ≤ i → IsBuilt c v
+pub grown_last : (c : CertView) (i : ℕ) (cells : List WaitingCell) (v : Snapshot) → GrownTo c i cells v → length c.events ≤ i → IsBuilt c v
 grown_last c i cells v s l =
     let stands : StandsFor (region_of c.vertices) (built_of c.events) v = subst (λ (K : History). StandsFor (region_of c.vertices) (built_of K) v) (take_all i c.events l) s.stands in
     record { region = stands.region; entries = λ p. stands.entries p ∙ outcome_at-built c.events p }

@@ -1,5 +1,5 @@
 -- The leaves of a whole tree whose cuts all divide their cells partition its root region.
-use Rattle.std.proofs.Common.{◌≡◌, inl, inr, ℕ, zero, suc, ◌+◌, ◌≤◌, true, false, cond, List, [], ◌∷◌, ◌++◌, map, length, take, drop, get_or, slice_get, refl, sym, ap, ap₂, subst, ◌∙◌, arith, take-append-drop}
+use Rattle.std.proofs.Common.{◌≡◌, inl, inr, ℕ, zero, suc, ◌+◌, ◌<◌, ◌≤◌, true, false, cond, List, [], ◌∷◌, ◌++◌, map, length, take, drop, get_or, slice_get, refl, sym, ap, ap₂, subst, ◌∙◌, arith, take-append-drop}
 use Rattle.std.specs.Prelude.{Contains}
 use Rattle.std.proofs.lemmas.Option.{same_Some, slice_get-get_or}
 use Rattle.std.proofs.lemmas.List.{take_more, take_all, map-append}
@@ -100,7 +100,11 @@ module _ (S T : Tree) (same : (p : List Side) → S p ≡ cut_in (T p)) where
     within = λ r p a. parts.within r p (holds_forth Root r p a);
   }
 
-module _ (Root : Area) (H : History) (tree : ListsWholeTree H) (divides : (i : ℕ) (e : Entry) (h : LinearForm) → slice_get H i ≡ Some e → e.outcome ≡ Cut h → Divides (region_at Root (outcome_at H) e.path) h) where
+-- each cut among the first n events divides its cell
+abbrev pub DividesBefore : Area → History → ℕ → Type 0
+DividesBefore Root H n = (k : ℕ) (e : Entry) (h : LinearForm) → k < n → slice_get H k ≡ Some e → e.outcome ≡ Cut h → Divides (region_at Root (outcome_at H) e.path) h
+
+module _ (Root : Area) (H : History) (tree : ListsWholeTree H) where
   sound_cut : (R : Area) (o : Outcome) → ((h : LinearForm) → o ≡ Cut h → Divides R h) → IsSound R 0 (cut_of o)
   sound_cut R (Inside ranks) d = tt
   sound_cut R (Outside cycle) d = tt
@@ -114,31 +118,31 @@ module _ (Root : Area) (H : History) (tree : ListsWholeTree H) (divides : (i : �
         ∙ ap (λ (K : History). region_at Root (outcome_at K) p) (sym (map-append cut_event (take i H) (drop i H)) ∙ ap cuts_of (take-append-drop i H))
         ∙ region_same (outcome_at (cuts_of H)) (outcome_at H) (outcome_at-cuts H) Root p
 
-    may_follow : (e : Entry) (rest : List (List Side)) → slice_get H i ≡ Some e → AreOpenAfter (take i H) (e.path ∷ rest) → MayFollow Root 0 (cuts_of (take i H)) (cut_event e)
-    may_follow e rest at o =
+    may_follow : (e : Entry) (rest : List (List Side)) → ((h : LinearForm) → e.outcome ≡ Cut h → Divides (region_at Root (outcome_at H) e.path) h) → AreOpenAfter (take i H) (e.path ∷ rest) → MayFollow Root 0 (cuts_of (take i H)) (cut_event e)
+    may_follow e rest divides o =
         let first : Contains (e.path ∷ rest) e.path = (0, omega arith, refl) in
         let cell : IsCellOf (outcome_at (cuts_of (take i H))) e.path = cell_forth (outcome_at (cuts_of (take i H))) (outcome_at (take i H)) (outcome_at-cuts (take i H)) e.path (o.cells e.path first) in
         record {
           there = cell;
           fresh = outcome_at-cuts (take i H) e.path ∙ ap cut_in (o.fresh e.path first);
-          sound = subst (λ (R : Area). IsSound R 0 (cut_of e.outcome)) (sym (region_then e.path cell)) (sound_cut (region_at Root (outcome_at H) e.path) e.outcome (λ h q. divides i e h at q));
+          sound = subst (λ (R : Area). IsSound R 0 (cut_of e.outcome)) (sym (region_then e.path cell)) (sound_cut (region_at Root (outcome_at H) e.path) e.outcome divides);
         }
 
-  pub legal_upto : (i : ℕ) → i ≤ length H → IsLegal Root 0 (cuts_of (take i H))
-  legal_upto zero l = IsLegal-empty Root 0
-  legal_upto (suc i) l =
+  pub legal_upto : (i : ℕ) → i ≤ length H → DividesBefore Root H i → IsLegal Root 0 (cuts_of (take i H))
+  legal_upto zero l divides = IsLegal-empty Root 0
+  legal_upto (suc i) l divides =
       let d : Entry = record { path = []; outcome = Left Memory } in
       let e : Entry = get_or H i d in
       let at : slice_get H i ≡ Some e = slice_get-get_or H i d (omega arith) in
       let w = walked_all H tree i (omega arith) in
       let t = walked_takes H i w.0 e w.1 at in
-      let old = legal_upto i (omega arith) in
+      let old = legal_upto i (omega arith) (λ k f h m bt q. divides k f h (omega arith) bt q) in
       let q : i + 1 ≡ suc i = omega arith in
       let more : cuts_of (take (suc i) H) ≡ cuts_of (take i H) ++ cut_event e ∷ [] =
       ap (λ (n : ℕ). cuts_of (take n H)) (sym q) ∙ ap cuts_of (take_more H i d (omega arith)) ∙ map-append cut_event (take i H) (e ∷ []) in
-      subst (IsLegal Root 0) (sym more) (IsLegal-append Root 0 (cuts_of (take i H)) (cut_event e) old (may_follow i old e t.rest at t.is_open))
+      subst (IsLegal Root 0) (sym more) (IsLegal-append Root 0 (cuts_of (take i H)) (cut_event e) old (may_follow i old e t.rest (λ h q. divides i e h (omega arith) at q) t.is_open))
 
-  pub partition : HasPoint Root → IsPartition Root (outcome_at H)
-  partition some =
-      let legal : IsLegal Root 0 (cuts_of H) = subst (λ (K : History). IsLegal Root 0 (cuts_of K)) (take_all (length H) H (omega arith)) (legal_upto (length H) (omega arith)) in
+  pub partition : DividesBefore Root H (length H) → HasPoint Root → IsPartition Root (outcome_at H)
+  partition divides some =
+      let legal : IsLegal Root 0 (cuts_of H) = subst (λ (K : History). IsLegal Root 0 (cuts_of K)) (take_all (length H) H (omega arith)) (legal_upto (length H) (omega arith) divides) in
       partition_back (outcome_at (cuts_of H)) (outcome_at H) (outcome_at-cuts H) Root (IsPartition-legal Root 0 (cuts_of H) some legal)

@@ -8,6 +8,7 @@ pub mod Cuts
 pub mod NodeCounts
 pub mod WalkStates
 pub mod Building
+pub mod Stacked
 pub mod BuiltAnswers
 pub mod Excluded
 pub mod WholeCounts

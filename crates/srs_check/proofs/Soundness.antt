@@ -1,21 +1,18 @@
 -- A leaf that proves itself is sound.
-use Rattle.std.proofs.Common.{◌≡◌, ◌≢◌, inl, inr, ℕ, zero, suc, ◌+◌, ◌<◌, List, length, slice_get, Some, ℤ, pos, ◌<ℤ◌, refl, sym, ap, ap₂, subst, ◌∙◌, arith}
+use Rattle.std.proofs.Common.{◌≡◌, ◌≢◌, inl, inr, ℕ, zero, suc, ◌+◌, ◌<◌, length, slice_get, Some, ℤ, pos, ◌<ℤ◌, refl, sym, ap, ap₂, subst, ◌∙◌, arith}
 use Rattle.std.specs.Prelude.{Contains}
 use Rattle.std.proofs.lemmas.Int.{by_lt_z, ints}
 use Rattle.std.proofs.lemmas.Option.{same_Some}
 use Rattle.srs_num.specs.declared.pairs.V2.{V2}
-use Rattle.srs_num.specs.Points.{Point}
+use Rattle.srs_num.specs.Points.{Point, LinearForm}
 use Rattle.srs_map.specs.Step.{pair, origin, step_of, after}
 use Rattle.srs_map.specs.Finiteness.{IsFinite}
 use Rattle.srs_map.specs.Links.{IsLink}
 use Rattle.srs_map.proofs.Brunotte.{brunotte}
 use Rattle.srs_map.proofs.Cycles.{after-add}
 use Rattle.srs_plane.specs.Regions.{Area, IsIn}
-use Rattle.srs_path.specs.declared.paths.Side.{Side}
-use Rattle.srs_path.specs.declared.outcomes.Cause.{Cause}
 use Rattle.srs_path.specs.declared.outcomes.Outcome.{Outcome}
-use Rattle.srs_path.specs.declared.outcomes.Outcome.TheVariants.{Inside, Outside, Left}
-use Rattle.srs_path.specs.Cutout.{Covers}
+use Rattle.srs_path.specs.declared.outcomes.Outcome.TheVariants.{Inside, Cut}
 use Rattle.srs_path.specs.Views.{Budget, Entry}
 use Rattle.srs_tree.specs.Tree.{History}
 use Rattle.srs_tree.specs.Growth.{IsProvedOf}
@@ -65,20 +62,11 @@ module _ (R : Area) (entries : RankList) (proves : ProvesInside R entries) (r : 
     reaches = λ w l. reach_by (l.0 + 1) l.0 w l.1 (omega arith);
   })
 
-pub good_inside : (R : Area) (L : Budget) (H : History) (k : ℕ) (entries : RankList) → ProvesInside R entries → IsGoodLeaf R L H k (Inside entries)
-good_inside R L H k entries p = record { no_cut = λ h e. cc; proves = p; sound = λ r i. finite R entries p r i }
+pub inside_sound : (R : Area) (entries : RankList) (o : Outcome) → Inside entries ≡ o → ProvesInside R entries → IsProvedOf R o
+inside_sound R entries o is p = subst (IsProvedOf R) is (λ r i. finite R entries p r i)
 
-pub good_outside : (R : Area) (L : Budget) (H : History) (k : ℕ) (cycle : List ℤ) → Covers R cycle → IsProvedOf R (Outside cycle) → IsGoodLeaf R L H k (Outside cycle)
-good_outside R L H k cycle p s = record { no_cut = λ h e. cc; proves = p; sound = s }
-
-pub good_left : (R : Area) (L : Budget) (H : History) (k : ℕ) (cause : Cause) → Proves R L H k (Left cause) → IsGoodLeaf R L H k (Left cause)
-good_left R L H k cause p = record { no_cut = λ h e. cc; proves = p; sound = tt }
-
--- what is found of the event at a place, by its path and its outcome
-pub good_at : (R : Area) (L : Budget) (H K : History) (i k : ℕ) (f : Entry) (path : List Side) (o given : Outcome) → K ≡ H → slice_get K i ≡ Some f → (let x : Entry = record { path = path; outcome = o } in x ≡ f) → given ≡ o → k ≡ length path
-    → IsGoodLeaf R L H k given → (e : Entry) → slice_get H i ≡ Some e → IsGoodLeaf R L H (length e.path) e.outcome
-good_at R L H K i k f path o given same at view is deep good e bt =
-    let x : Entry = record { path = path; outcome = o } in
-    let here : IsGoodLeaf R L H (length path) o = subst (λ (n : ℕ). IsGoodLeaf R L H n o) deep (subst (IsGoodLeaf R L H k) is good) in
-    let found : x ≡ e = view ∙ same_Some f e (sym at ∙ ap (λ (y : History). slice_get y i) same ∙ bt) in
-    subst (λ (y : Entry). IsGoodLeaf R L H (length y.path) y.outcome) found here
+-- what the event at a place proves is proved of each that is found there
+pub good_leaf : (R : Area) (L : Budget) (H : History) (i : ℕ) (f e : Entry) → slice_get H i ≡ Some f → slice_get H i ≡ Some e → ((h : LinearForm) → f.outcome ≡ Cut h → ⊥) → Proves R L H (length f.path) f.outcome → IsProvedOf R f.outcome
+    → IsGoodLeaf R L H (length e.path) e.outcome
+good_leaf R L H i f e at bt no_cut proves sound =
+    subst (λ (x : Entry). IsGoodLeaf R L H (length x.path) x.outcome) (same_Some f e (sym at ∙ bt)) (record { no_cut = no_cut; proves = proves; sound = sound })

@@ -1,14 +1,13 @@
 -- The walk of a check, node by node.
 use Rattle.std.proofs.Common.{◌≡◌, ℕ, ◌+◌, ◌<◌, ◌≤◌, List, [], ◌∷◌, ◌++◌, map, length, length-append, get_or, slice_get, refl, sym, ap, ap₂, subst, ◌∙◌, arith, append-nil}
 use Rattle.std.proofs.Math.Decide.{dec_lt}
+use Rattle.std.proofs.lemmas.List.{map-append}
 use Rattle.std.proofs.lemmas.Option.{same_Some, slice_get_within, slice_get-get_or}
 use Rattle.std.specs.declared.option.Option.{Option}
 use Rattle.std.specs.declared.option.Option.TheVariants.{Some, None}
 use Rattle.srs_num.specs.Points.{LinearForm}
-use Rattle.srs_plane.specs.declared.halves.Half.{Half}
-use Rattle.srs_plane.specs.declared.polygons.Vertex.{Vertex}
-use Rattle.srs_plane.specs.Polygons.{edge_at, vertex_at, region_of, IsPolygon}
-use Rattle.srs_plane.specs.Regions.{Area, Divides}
+use Rattle.srs_plane.specs.Polygons.{region_of}
+use Rattle.srs_plane.specs.Regions.{Area}
 use Rattle.srs_plane.proofs.Inside.{polygon_has_point}
 use Rattle.srs_plane.proofs.Ring_of_vertices.{few_halves}
 use Rattle.srs_path.specs.declared.paths.Side.{Side}
@@ -31,19 +30,23 @@ use Rattle.srs_check.specs.declared.nodes.Tested.TheVariants.{Leaf, Divided, Wro
 use Rattle.srs_check.specs.Tested.{IsGoodLeaf, IsDivided, IsTested}
 use Rattle.srs_check.specs.Certified.{IsCertified}
 use Rattle.srs_file.proofs.Preordered.{IsWalked, Takes, walked_first, walked_takes, walked_outcome}
-use Rattle.srs_check.proofs.Cuts.{partition}
+use Rattle.srs_check.proofs.Cuts.{DividesBefore, partition}
 
 -- the node proves itself, and what it claims is sound
 pub record IsGood (c : CertView) (e : Entry) : Type 0 where
   pub proves : ProvesItself c e
   pub sound : IsProvedOf (cell_at c e.path) e.outcome
 
+-- each node before node i is good
+abbrev pub AreGood : CertView → ℕ → Type 0
+AreGood c i = (k : ℕ) (e : Entry) → k < i → slice_get c.events k ≡ Some e → IsGood c e
+
 -- before node i: the cells that wait are those of the paths that wait, and each node before is good
 pub record WalkState (c : CertView) (i : ℕ) (cells : List Area) : Type 0 where
   pub waiting : List (List Side)
   pub walked : IsWalked c.events i waiting
   pub cells_are : cells ≡ map (cell_at c) waiting
-  pub good : (k : ℕ) (e : Entry) → k < i → slice_get c.events k ≡ Some e → IsGood c e
+  pub good : AreGood c i
 
 pub walk_first : (c : CertView) (root : Area) → IsCertificate c → root ≡ region_of c.vertices → WalkState c 0 (root ∷ [])
 walk_first c root is e = record {
@@ -65,11 +68,15 @@ some_cell c i l s =
     let q : [] ≡ cell_at c e.0.path ∷ map (cell_at c) t.rest = s.cells_are ∙ ap (map (cell_at c)) t.first in
     cc
 
-good_more : (c : CertView) (i : ℕ) (e : Entry) → slice_get c.events i ≡ Some e → ((k : ℕ) (f : Entry) → k < i → slice_get c.events k ≡ Some f → IsGood c f) → IsGood c e → (k : ℕ) (f : Entry) → k < i + 1 → slice_get c.events k ≡ Some f → IsGood c f
+pub good_more : (c : CertView) (i : ℕ) (e : Entry) → slice_get c.events i ≡ Some e → AreGood c i → IsGood c e → AreGood c (i + 1)
 good_more c i e at before here k f l bt = elim (dec_lt k i) as (λ _. IsGood c f) [
   | yes g ↦ before k f g bt
   | no g ↦ let q : k ≡ i = omega arith in subst (IsGood c) (same_Some e f (sym at ∙ ap (slice_get c.events) (sym q) ∙ bt)) here
 ]
+
+-- each cut among good nodes divides its cell
+pub good_divides : (c : CertView) (i : ℕ) → AreGood c i → DividesBefore (region_of c.vertices) c.events i
+good_divides c i good k e h l at q = subst (λ (o : Outcome). Proves (cell_at c e.path) c.limits c.events (length e.path) o) q (good k e l at).proves
 
 no_parts : (path : List Side) (o : Outcome) → ((h : LinearForm) → o ≡ Cut h → ⊥) → parts_by path o ≡ []
 no_parts path (Inside ranks) plain = refl
@@ -96,16 +103,23 @@ module _ (c : CertView) (i : ℕ) (R : Area) (rest : List Area) (s : WalkState c
   rest_is : rest ≡ map (cell_at c) t.rest
   rest_is = tail_is R (cell_at c e.path) rest (map (cell_at c) t.rest) both
 
-  pub walk_leaf : IsGoodLeaf R c.limits c.events (length e.path) e.outcome → WalkState c (i + 1) rest
-  walk_leaf leaf = record {
-    waiting = t.rest;
-    walked = subst (λ (ps : List (List Side)). IsWalked c.events (i + 1) (ps ++ t.rest)) (no_parts e.path e.outcome leaf.no_cut) t.next;
-    cells_are = rest_is;
-    good = good_more c i e at s.good (record {
-      proves = subst (λ (A : Area). Proves A c.limits c.events (length e.path) e.outcome) cell_is leaf.proves;
-      sound = subst (λ (A : Area). IsProvedOf A e.outcome) cell_is leaf.sound;
-    });
+  pub walk_good : Proves R c.limits c.events (length e.path) e.outcome → IsProvedOf R e.outcome → IsGood c e
+  walk_good proves sound = record {
+    proves = subst (λ (A : Area). Proves A c.limits c.events (length e.path) e.outcome) cell_is proves;
+    sound = subst (λ (A : Area). IsProvedOf A e.outcome) cell_is sound;
   }
+
+  -- the cells of its parts come before the others
+  pub walk_next : Proves R c.limits c.events (length e.path) e.outcome → IsProvedOf R e.outcome → (parts : List Area) → parts ≡ map (cell_at c) (parts_by e.path e.outcome) → WalkState c (i + 1) (parts ++ rest)
+  walk_next proves sound parts are = record {
+    waiting = parts_by e.path e.outcome ++ t.rest;
+    walked = t.next;
+    cells_are = ap₂ (λ (xs ys : List Area). xs ++ ys) are rest_is ∙ sym (map-append (cell_at c) (parts_by e.path e.outcome) t.rest);
+    good = good_more c i e at s.good (walk_good proves sound);
+  }
+
+  pub walk_leaf : IsGoodLeaf R c.limits c.events (length e.path) e.outcome → WalkState c (i + 1) rest
+  walk_leaf leaf = walk_next leaf.proves leaf.sound [] (ap (map (cell_at c)) (sym (no_parts e.path e.outcome leaf.no_cut)))
 
   -- the cell of a part
   part_is : (h : LinearForm) (side : Side) → e.outcome ≡ Cut h → cell_at c (e.path ++ side ∷ []) ≡ R ++ cut_half (Some (Cut h)) side
@@ -115,18 +129,9 @@ module _ (c : CertView) (i : ℕ) (R : Area) (rest : List Area) (s : WalkState c
 
   pub walk_cut : (x y : Area) → IsDivided R e.outcome x y → WalkState c (i + 1) (x ∷ y ∷ rest)
   walk_cut x y d =
-      let divides : Divides (cell_at c e.path) d.form = subst (λ (A : Area). Divides A d.form) cell_is d.parts.divides in
-      record {
-        waiting = (e.path ++ Ge ∷ []) ∷ (e.path ++ Lt ∷ []) ∷ t.rest;
-        walked = subst (λ (o : Outcome). IsWalked c.events (i + 1) (parts_by e.path o ++ t.rest)) d.is_cut t.next;
-        cells_are =
-            ap₂ (λ (a b : Area). a ∷ b ∷ rest) (d.parts.above ∙ sym (part_is d.form Ge d.is_cut)) (d.parts.below ∙ sym (part_is d.form Lt d.is_cut))
-            ∙ ap (λ (xs : List Area). cell_at c (e.path ++ Ge ∷ []) ∷ cell_at c (e.path ++ Lt ∷ []) ∷ xs) rest_is;
-        good = good_more c i e at s.good (record {
-          proves = subst (λ (o : Outcome). Proves (cell_at c e.path) c.limits c.events (length e.path) o) (sym d.is_cut) divides;
-          sound = subst (λ (o : Outcome). IsProvedOf (cell_at c e.path) o) (sym d.is_cut) divides;
-        });
-      }
+      walk_next (subst (λ (o : Outcome). Proves R c.limits c.events (length e.path) o) (sym d.is_cut) d.parts.divides) (subst (λ (o : Outcome). IsProvedOf R o) (sym d.is_cut) d.parts.divides) (x ∷ y ∷ [])
+      (ap₂ (λ (a b : Area). a ∷ b ∷ []) (d.parts.above ∙ sym (part_is d.form Ge d.is_cut)) (d.parts.below ∙ sym (part_is d.form Lt d.is_cut))
+      ∙ ap (λ (o : Outcome). map (cell_at c) (parts_by e.path o)) (sym d.is_cut))
 
   pub walk_fault : (fault : Fault) → Fails R c.limits c.events (length e.path) e.outcome fault → IsFaultOf c i fault
   walk_fault fault wrong = record {
@@ -161,7 +166,7 @@ module _ (c : CertView) (i : ℕ) (cells : List Area) (s : WalkState c i cells) 
 
   pub walk_certifies : IsCertificate c → IsCertified c
   walk_certifies is = record {
-    parts = partition (region_of c.vertices) c.events is.tree (λ k e h at q. subst (λ (o : Outcome). Proves (cell_at c e.path) c.limits c.events (length e.path) o) q (all_good k e at).proves) (polygon_has_point c.vertices is.polygon);
+    parts = partition (region_of c.vertices) c.events is.tree (good_divides c (length c.events) (λ k e m at. all_good k e at)) (polygon_has_point c.vertices is.polygon);
     sound = λ k e at. (all_good k e at).sound;
   }
 

@@ -73,7 +73,7 @@ fn first_fault(alloc: Global, c: &Cert, root: Cell) -> Result<Option<(u32, Fault
 }
 
 // How many nodes there are, and how many of each kind.
-fn count_nodes(c: &Cert) -> Counts
+pub(crate) fn count_nodes(c: &Cert) -> Counts
     ensures { result ≡ counts_of c.now.events }
 {
     let mut counts = Counts {

@@ -1,5 +1,6 @@
 // The test of one node.
 ghost use Rattle.std.specs.Prelude.{◌≡◌, ◌≤◌, ◌<◌, ◌+◌, length, slice_get, Some, IfOk, IfErr, OnOk};
+ghost use Rattle.srs_plane.specs.Regions.{Divides};
 ghost use Rattle.srs_path.specs.declared.outcomes.Outcome.TheVariants.{Outside, Left};
 ghost use Rattle.srs_path.specs.Cutout.{Covers};
 ghost use Rattle.srs_path.specs.Views.{Entry};
@@ -8,16 +9,17 @@ ghost use Rattle.srs_check.specs.Budgets.{CountsRows};
 ghost use Rattle.srs_check.specs.Proving.{Proves};
 ghost use Rattle.srs_check.specs.Faults.{Fails, IsCycleFault};
 ghost use Rattle.srs_check.specs.Tested.{IsTested, IsDivision};
+ghost use Rattle.srs_check.specs.declared.faults.Fault.TheVariants.{NotProper};
 
 use crate::Fault;
 use crate::listed::check_inside;
 use crate::rows::{Rows, spends_cells};
-use srs_cell::{Cell, Parts};
+use srs_cell::{Cell, Parts, divides};
 use srs_cut::{Judged, judge};
 use srs_file::Cert;
 use srs_grid::line;
 use srs_num::{Form, NoMemory};
-use srs_path::{Cause, Cycle, Outcome};
+use srs_path::{Cause, Cycle, Event, Outcome};
 use std::alloc::Global;
 
 // What the test of a node tells: a leaf that proves itself, the two parts of a cut, or a fault.
@@ -42,16 +44,30 @@ pub(crate) fn test_node(
     ensures { IfOk result (λ t. (e : Entry) → slice_get c.now.events i ≡ Some e → IsTested cell.now c.now.limits c.now.events (length e.path) e.outcome t) }
 {
     let event = c.events().get(i as u64);
+    if let Outcome::Cut(h) = event.outcome.as_ref() {
+        // A path has at most 48 sides, so a cell has at most 64 halves.
+        let _ = event.path.len();
+        return check_cut(alloc, cell, h);
+    }
+    match check_node(c, rows, cell, event) {
+        Ok(()) => Ok(Tested::Leaf),
+        Err(fault) => Ok(Tested::Wrong(fault)),
+    }
+}
+
+// Whether the node of the event, which has this cell, proves itself.
+pub(crate) fn check_node(c: &Cert, rows: &Rows, cell: &Cell, event: &Event) -> Result<(), Fault>
+    requires { CountsRows c.now.events rows.now }
+    ensures ok { OnOk result (Proves cell.now c.now.limits c.now.events (length event.now.path) event.now.outcome) }
+    ensures sound { OnOk result (IsProvedOf cell.now event.now.outcome) }
+    ensures err { IfErr result (Fails cell.now c.now.limits c.now.events (length event.now.path) event.now.outcome) }
+{
     let depth = event.path.len();
-    let tested = match event.outcome.as_ref() {
+    match event.outcome.as_ref() {
         Outcome::Inside(ranks) => check_inside(cell, ranks),
         Outcome::Outside(cycle) => check_outside(cell, cycle),
         Outcome::Left(cause) => check_left(c, rows, cell, depth, *cause),
-        Outcome::Cut(h) => return check_cut(alloc, cell, h),
-    };
-    match tested {
-        Ok(()) => Ok(Tested::Leaf),
-        Err(fault) => Ok(Tested::Wrong(fault)),
+        Outcome::Cut(h) => check_proper(cell, h),
     }
 }
 
@@ -69,8 +85,20 @@ fn check_outside(cell: &Cell, cycle: &Cycle) -> Result<(), Fault>
     }
 }
 
+// Whether the form divides the cell.
+fn check_proper(cell: &Cell, h: &Form) -> Result<(), Fault>
+    ensures ok { OnOk result (Divides cell.now h.now) }
+    ensures err { IfErr result (λ fault. (fault ≡ NotProper) × (Divides cell.now h.now → ⊥)) }
+{
+    if divides(cell, h) {
+        Ok(())
+    } else {
+        Err(Fault::NotProper)
+    }
+}
+
 // The two parts of the cell.
-pub(crate) fn check_cut(alloc: Global, cell: &Cell, h: &Form) -> Result<Tested, NoMemory>
+fn check_cut(alloc: Global, cell: &Cell, h: &Form) -> Result<Tested, NoMemory>
     requires { length cell.now < 80 }
     ensures { IfOk result (IsDivision cell.now h.now) }
 {

@@ -1,5 +1,5 @@
 use Rattle.srs_check.proofs.Building.{GrownTo}
-use Rattle.srs_check.proofs.builds.version_of.Given as goal
+use Rattle.srs_check.proofs.builds.build.Given as goal
 
 abbrev pub invariant-loop-i : goal.invariant-loop-i
 invariant-loop-i l = GrownTo l.c l.i l.waiting l.version

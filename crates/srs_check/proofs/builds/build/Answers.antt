@@ -1,0 +1,86 @@
+use Rattle.std.proofs.Common.{◌≡◌, ◌+◌, ◌∷◌, ◌++◌, List, length, slice_get, Some, refl, sym, ap, subst, ◌∙◌, arith}
+use Rattle.std.specs.FinMap as finite
+use Rattle.std.specs.declared.option.Option.{Option}
+use Rattle.srs_plane.specs.Regions.{Area}
+use Rattle.srs_plane.specs.Polygons.{region_of}
+use Rattle.srs_plane.proofs.Ring_of_vertices.{few_halves}
+use Rattle.srs_tree.specs.Growth.{IsProvedOf}
+use Rattle.srs_tree.specs.Queue.{WaitingCell, cells_from}
+use Rattle.srs_tree.specs.Snapshots.{Snapshot}
+use Rattle.srs_check.specs.Proving.{Proves}
+use Rattle.srs_check.specs.Faults.{Fails}
+use Rattle.srs_check.proofs.Answering.{same_get}
+use Rattle.srs_check.proofs.Excluded.{first_fault}
+use Rattle.srs_check.proofs.WalkStates.{WalkState, some_cell, walk_proves, walk_certifies}
+use Rattle.srs_check.proofs.Building.{GrownTo, regions_of, grown_first, grown_next, grown_last, built_fault, cell_is_open, same_region, cut_is_short}
+use Rattle.srs_check.proofs.builds.build.Goals as goal
+use Rattle.srs_check.proofs.builds.build.Goals.{in-Some-2+in_ok-divide, in_default-2}
+
+pub start-requires : goal.start-requires
+start-requires c =
+    let few = few_halves c.args.c.now.vertices (region_of c.args.c.now.vertices) c.node_count-nodes.ensures.certificate.polygon.counted refl in
+    omega (arith, few, ap length c.in_ok-root_of.ensures)
+
+pub loop-i-init : goal.loop-i-init
+loop-i-init c =
+    let v = c.in_ok-version.ensures ∙ ap (λ (R : Area). let w : Snapshot = record { region = R; entries = finite.empty } in w) c.in_ok-root_of.ensures in
+    let region = ap (λ (w : WaitingCell). w.region) c.in_ok-root.ensures ∙ ap (λ (w : Snapshot). w.region) v in
+    subst (λ (xs : List WaitingCell). GrownTo c.args.c.now 0 xs c.in_ok-version.version) (sym c.of-waiting.ensures) (grown_first c.args.c.now c.in_ok-root.field-0 c.in_ok-version.version c.node_count-nodes.ensures.certificate region v)
+
+pub unreachable-requires : goal.unreachable-requires
+unreachable-requires c =
+    some_cell c.args.c.now c.loop-i.i (omega arith) (subst (λ (xs : List WaitingCell). WalkState c.args.c.now c.loop-i.i (regions_of xs)) c.in_default.ensures c.loop-i.invariant.walk)
+
+pub returns-in-Err : goal.returns-in-Err
+returns-in-Err c =
+    let s : GrownTo c.args.c.now c.loop-i.i (c.in-Some.next ∷ c.take.new.self) c.loop-i.version = subst (λ (xs : List WaitingCell). GrownTo c.args.c.now c.loop-i.i xs c.loop-i.version) c.in-Some.ensures c.loop-i.invariant in
+    let at : slice_get c.args.c.now.events c.loop-i.i ≡ Some c.get-event.result.now = same_get c.events.result.now c.args.c.now.events c.loop-i.i c.get-event.result.now c.events.ensures.events c.get-event.ensures in
+    let region : c.deref.result.now ≡ c.in-Some.next.region = c.deref.ensures ∙ ap (λ (w : WaitingCell). w.region) c.next.view_is in
+    let wrong = subst (λ (R : Area). Fails R c.args.c.now.limits c.args.c.now.events (length c.get-event.result.now.path) c.get-event.result.now.outcome c.in-Err.fault) region c.in-Err.ensures.err in
+    first_fault c.args.c.now c.line.result c.loop-i.i c.in-Err.fault c.line.ensures
+    (built_fault c.args.c.now c.node_count-nodes.ensures.certificate c.loop-i.i c.in-Some.next c.take.new.self c.loop-i.version s c.get-event.result.now at c.in-Err.fault wrong)
+
+pub enter-requires-clause-is_open : goal.enter-requires-clause-is_open
+enter-requires-clause-is_open c =
+    let s : GrownTo c.args.c.now c.loop-i.i (c.in-Some.next ∷ c.take.new.self) c.loop-i.version = subst (λ (xs : List WaitingCell). GrownTo c.args.c.now c.loop-i.i xs c.loop-i.version) c.in-Some.ensures c.loop-i.invariant in
+    let at : slice_get c.args.c.now.events c.loop-i.i ≡ Some c.get-event.result.now = same_get c.events.result.now c.args.c.now.events c.loop-i.i c.get-event.result.now c.events.ensures.events c.get-event.ensures in
+    cell_is_open c.args.c.now c.node_count-nodes.ensures.certificate c.loop-i.i c.in-Some.next c.take.new.self c.loop-i.version s c.get-event.result.now at
+
+pub enter-requires-clause-same : goal.enter-requires-clause-same
+enter-requires-clause-same c =
+    let s : GrownTo c.args.c.now c.loop-i.i (c.in-Some.next ∷ c.take.new.self) c.loop-i.version = subst (λ (xs : List WaitingCell). GrownTo c.args.c.now c.loop-i.i xs c.loop-i.version) c.in-Some.ensures c.loop-i.invariant in
+    let at : slice_get c.args.c.now.events c.loop-i.i ≡ Some c.get-event.result.now = same_get c.events.result.now c.args.c.now.events c.loop-i.i c.get-event.result.now c.events.ensures.events c.get-event.ensures in
+    let region : c.deref-in-loop-i.result.now ≡ c.in-Some.next.region = c.deref-in-loop-i.ensures ∙ ap (λ (w : WaitingCell). w.region) c.next.view_is in
+    region ∙ same_region c.args.c.now c.node_count-nodes.ensures.certificate c.loop-i.i c.in-Some.next c.take.new.self c.loop-i.version s c.get-event.result.now at
+
+pub enter-requires-clause-short : goal.enter-requires-clause-short
+enter-requires-clause-short c =
+    let at : slice_get c.args.c.now.events c.loop-i.i ≡ Some c.get-event.result.now = same_get c.events.result.now c.args.c.now.events c.loop-i.i c.get-event.result.now c.events.ensures.events c.get-event.ensures in
+    cut_is_short c.args.c.now c.loop-i.i c.get-event.result.now c.node_count-nodes.ensures.certificate at
+
+pub loop-i-preserved : goal.loop-i-preserved
+loop-i-preserved c =
+    let s : GrownTo c.args.c.now c.loop-i.i (c.in-Some.next ∷ c.take.new.self) c.loop-i.version = subst (λ (xs : List WaitingCell). GrownTo c.args.c.now c.loop-i.i xs c.loop-i.version) c.in-Some.ensures c.loop-i.invariant in
+    let at : slice_get c.args.c.now.events c.loop-i.i ≡ Some c.get-event.result.now = same_get c.events.result.now c.args.c.now.events c.loop-i.i c.get-event.result.now c.events.ensures.events c.get-event.ensures in
+    let region : c.deref.result.now ≡ c.in-Some.next.region = c.deref.ensures ∙ ap (λ (w : WaitingCell). w.region) c.next.view_is in
+    let proves = subst (λ (R : Area). Proves R c.args.c.now.limits c.args.c.now.events (length c.get-event.result.now.path) c.get-event.result.now.outcome) region c.in_default-check_node.ensures.ok in
+    let sound = subst (λ (R : Area). IsProvedOf R c.get-event.result.now.outcome) region c.in_default-check_node.ensures.sound in
+    let grown : GrownTo c.args.c.now (c.loop-i.i + 1) (cells_from c.in_ok-ge.field-0 ++ c.take.new.self) c.enter.new.version
+    = grown_next c.args.c.now c.node_count-nodes.ensures.certificate c.loop-i.i c.in-Some.next c.take.new.self c.loop-i.version s c.get-event.result.now at proves sound
+    c.enter.new.version c.in_ok-ge.ensures.entered (cells_from c.in_ok-ge.field-0) c.in_ok-ge.ensures.parts in
+    elim c.match-branch-5.branch [
+      | in-Some-2+in_ok-divide w ↦
+          subst (λ (xs : List WaitingCell). GrownTo c.args.c.now (c.loop-i.i + 1) xs c.enter.new.version)
+          (ap (λ (o : Option (WaitingCell × WaitingCell)). cells_from o ++ c.take.new.self) w.in-Some-2.is ∙ sym (w.waiting-is ∙ w.in_ok-divide.ensures)) grown
+      | in_default-2 w ↦
+          subst (λ (xs : List WaitingCell). GrownTo c.args.c.now (c.loop-i.i + 1) xs c.enter.new.version)
+          (ap (λ (o : Option (WaitingCell × WaitingCell)). cells_from o ++ c.take.new.self) w.in_default-2.is ∙ sym w.waiting-is) grown
+    ]
+
+pub returns : goal.returns
+returns c =
+    let walk = c.loop-i.invariant.walk in (
+      grown_last c.args.c.now c.loop-i.i c.loop-i.waiting c.loop-i.version c.loop-i.invariant (omega arith),
+      (walk_proves c.args.c.now c.loop-i.i (regions_of c.loop-i.waiting) walk (omega arith), c.count_nodes.ensures),
+      walk_certifies c.args.c.now c.loop-i.i (regions_of c.loop-i.waiting) walk (omega arith) c.node_count-nodes.ensures.certificate,
+    )
