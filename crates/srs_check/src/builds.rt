@@ -28,7 +28,7 @@ pub enum Built {
 }
 
 /// The version that has what the certificate has, but each cell that is left without its cause, which no check tests.
-/// `Bad` comes as for `check`. An `Err` is want of memory.
+/// `Bad` comes as for `check`. It is one walk: each node is tested, and then entered. An `Err` is want of memory.
 pub fn build(alloc: Global, c: &Cert) -> Result<Built, NoMemory>
     ensures { IfOk result (IsBuiltFrom c.now) }
 {

@@ -30,7 +30,7 @@ pub(crate) enum Tested {
     Wrong(Fault),
 }
 
-// The test of the node number `i`, which has this cell.
+// The test of the node number `i`, which has this cell. A cut is tested by making its parts.
 pub(crate) fn test_node(
     alloc: Global,
     c: &Cert,
@@ -55,7 +55,7 @@ pub(crate) fn test_node(
     }
 }
 
-// Whether the node of the event, which has this cell, proves itself.
+// Whether the node of the event, which has this cell, proves itself. No part is made.
 pub(crate) fn check_node(c: &Cert, rows: &Rows, cell: &Cell, event: &Event) -> Result<(), Fault>
     requires { CountsRows c.now.events rows.now }
     ensures ok { OnOk result (Proves cell.now c.now.limits c.now.events (length event.now.path) event.now.outcome) }
