@@ -23,12 +23,10 @@ use Rattle.srs_tree.proofs.HistoryLemmas.{path_eq_same}
 use Rattle.srs_tree.proofs.StandsLemmas.{path_total, ties, Stands-empty, Stands-append}
 use Rattle.srs_file.specs.Certificates.{CertView, IsCertificate}
 use Rattle.srs_file.proofs.Preordered.{here_first, take_here, Takes, walked_takes}
-use Rattle.srs_check.specs.declared.faults.Fault.{Fault}
-use Rattle.srs_check.specs.Faults.{Fails, IsFaultOf}
 use Rattle.srs_check.specs.Proving.{Proves, cell_at}
 use Rattle.srs_check.specs.Builds.{as_built, built_in, IsBuilt}
 use Rattle.srs_check.proofs.Cuts.{cuts_of, cut_in, outcome_at-cuts, cell_forth, cell_back, region_same, region_then, legal_upto}
-use Rattle.srs_check.proofs.WalkStates.{AreGood, WalkState, good_more, good_divides, walk_first, walk_good, walk_next, walk_fault, cell_is}
+use Rattle.srs_check.proofs.WalkStates.{AreGood, WalkState, good_more, good_divides, walk_first, walk_good, walk_next, cell_is}
 
 abbrev pub built_event : Entry → Entry
 built_event e = record { path = e.path; outcome = as_built e.outcome }
@@ -113,9 +111,6 @@ module _ (c : CertView) (is : IsCertificate c) (i : ℕ) (w : WaitingCell) (rest
 
   pub same_region : w.region ≡ region_at v.region (tree_of v) e.path
   same_region = cell_is c i w.region (regions_of rest) s.walk e at ∙ sym (same_cell c is i (omega (arith, early)) s.walk.good v s.stands e.path cell_is_open.cell)
-
-  pub built_fault : (fault : Fault) → Fails w.region c.limits c.events (length e.path) e.outcome fault → IsFaultOf c i fault
-  built_fault fault wrong = walk_fault c i w.region (regions_of rest) s.walk e at fault wrong
 
   module _ (proves : Proves w.region c.limits c.events (length e.path) e.outcome) (sound : IsProvedOf w.region e.outcome) where
     abbrev after : Snapshot

@@ -11,8 +11,8 @@ use Rattle.srs_check.specs.Proving.{Proves}
 use Rattle.srs_check.specs.Faults.{Fails}
 use Rattle.srs_check.proofs.Answering.{same_get}
 use Rattle.srs_check.proofs.Excluded.{first_fault}
-use Rattle.srs_check.proofs.WalkStates.{WalkState, some_cell, walk_proves, walk_certifies}
-use Rattle.srs_check.proofs.Building.{GrownTo, regions_of, grown_first, grown_next, grown_last, built_fault, cell_is_open, same_region, cut_is_short}
+use Rattle.srs_check.proofs.WalkStates.{WalkState, some_cell, walk_fault, walk_proves, walk_certifies}
+use Rattle.srs_check.proofs.Building.{GrownTo, regions_of, grown_first, grown_next, grown_last, cell_is_open, same_region, cut_is_short}
 use Rattle.srs_check.proofs.builds.build.Goals as goal
 use Rattle.srs_check.proofs.builds.build.Goals.{in-Some-2+in_ok-divide, in_default-2}
 
@@ -38,7 +38,7 @@ returns-in-Err c =
     let region : c.deref.result.now ≡ c.in-Some.next.region = c.deref.ensures ∙ ap (λ (w : WaitingCell). w.region) c.next.view_is in
     let wrong = subst (λ (R : Area). Fails R c.args.c.now.limits c.args.c.now.events (length c.get-event.result.now.path) c.get-event.result.now.outcome c.in-Err.fault) region c.in-Err.ensures.err in
     first_fault c.args.c.now c.line.result c.loop-i.i c.in-Err.fault c.line.ensures
-    (built_fault c.args.c.now c.node_count-nodes.ensures.certificate c.loop-i.i c.in-Some.next c.take.new.self c.loop-i.version s c.get-event.result.now at c.in-Err.fault wrong)
+    (walk_fault c.args.c.now c.loop-i.i c.in-Some.next.region (regions_of c.take.new.self) s.walk c.get-event.result.now at c.in-Err.fault wrong)
 
 pub enter-requires-clause-is_open : goal.enter-requires-clause-is_open
 enter-requires-clause-is_open c =
