@@ -70,6 +70,15 @@ module _ (f : LinearForm) (cs : List Point) (sized : All (IsPointWithin (2 ^ 77)
       same : (a : ℤ) → a ≤ℤ a
       same a = omega (arith, linear)
 
+-- the first corner is the least of itself alone
+pub least_first : (f : LinearForm) (cs : List Point) (c : Point) → 0 < length cs → c ≡ get_or cs 0 c → IsLeast f (take 1 cs) c
+least_first f cs c lt read =
+    let P : Point → Type 0 = λ x. (value f c *ℤ x.d) ≤ℤ (value f x *ℤ c.d) in
+    All-more P cs 0 c lt (All-nil P) (rw (sym read) (same (value f c *ℤ c.d)))
+  where
+    same : (a : ℤ) → a ≤ℤ a
+    same a = omega (arith, linear)
+
 pub least_all : (f : LinearForm) (cs : List Point) (i : ℕ) (c : Point) → length cs ≤ i → Contains cs c → IsLeast f (take i cs) c → IsLeastCorner f cs c
 least_all f cs i c h among least = record { among = among; least = rw (take_all i cs h) at least }
 

@@ -181,7 +181,8 @@ fn least_corner(form: &Form, corners: &[Corner]) -> Corner
     ensures { IsLeastCorner form.now corners.now result }
 {
     let mut least = corners[0];
-    for corner in corners {
+    for i in 1..corners.len() {
+        let corner = &corners[i];
         if is_lower(form, corner, &least) {
             least = *corner;
         }

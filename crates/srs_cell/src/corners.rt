@@ -77,6 +77,7 @@ pub(crate) fn clip_corners(
     requires section { IsSection (boxed (take count region.now)) section.now }
     ensures { IfOk result (IsLeft (boxed (take count region.now)) corners.now section.now.line) }
 {
+    // The clauses alone speak of the halves: the section has their ends.
     let _region = region;
     let _count = count;
     if all_above(corners, &section.line) {

@@ -9,7 +9,7 @@ use std::test::Fail;
 
 const WIDEST: i64 = 1 << 37;
 
-// The kind of the triangle's edges, halves, and a point of the region; none where it has none.
+// The kind of the triangle's edges, halves, and the point of the region that is its sample; none where it has none.
 type Row = (
     Kind,
     &'static [(i64, i64, i64, Kind)],
@@ -33,14 +33,14 @@ const WHOLE_TRIANGLES: [Row; 6] = [
 // The edge y = 0 and the corner (0, 0), closed and left out; the segment x = 1/4 between open ends, and the point
 // (1/4, 1/2) of it; strict halves that leave nothing.
 const SEGMENTS_AND_POINTS: [Row; 8] = [
-    (Kind::Ge, &[(0, -1, 0, Kind::Ge)], Some((2, 0, 4))),
+    (Kind::Ge, &[(0, -1, 0, Kind::Ge)], Some((1, 0, 2))),
     (Kind::Gt, &[(0, -1, 0, Kind::Ge)], None),
-    (Kind::Ge, &[(-1, -1, 0, Kind::Ge)], Some((0, 0, 3))),
+    (Kind::Ge, &[(-1, -1, 0, Kind::Ge)], Some((0, 0, 1))),
     (Kind::Ge, &[(-1, -1, 0, Kind::Gt)], None),
     (
         Kind::Gt,
         &[(4, 0, -1, Kind::Ge), (-4, 0, 1, Kind::Ge)],
-        Some((4, 6, 16)),
+        Some((2, 3, 8)),
     ),
     (
         Kind::Gt,
@@ -50,7 +50,7 @@ const SEGMENTS_AND_POINTS: [Row; 8] = [
             (0, 2, -1, Kind::Ge),
             (0, -2, 1, Kind::Ge),
         ],
-        Some((8, 16, 32)),
+        Some((1, 2, 4)),
     ),
     (
         Kind::Gt,
@@ -76,11 +76,28 @@ fn sample_of(
     }
 }
 
+// Whether both are the same point, or none.
+fn is_same_point(point: Option<(i128, i128, i128)>, other: Option<(i128, i128, i128)>) -> bool {
+    match (point, other) {
+        (None, None) => true,
+        (Some((p, q, d)), Some((r, s, e))) => is_same(p, d, r, e) && is_same(q, d, s, e),
+        _ => false,
+    }
+}
+
+// Whether a / b and c / d are the same number.
+fn is_same(a: i128, b: i128, c: i128, d: i128) -> bool {
+    match (a.checked_mul(d), c.checked_mul(b)) {
+        (Some(left), Some(right)) => left == right,
+        _ => false,
+    }
+}
+
 // The place of the first row that isn't so; none where all are.
 fn first_other_sample(alloc: Global, rows: &[Row]) -> Result<Option<usize>, Fail> {
     for (i, row) in rows.iter().enumerate() {
         let (kind, halves, want) = *row;
-        if sample_of(alloc, kind, halves)? != want {
+        if !is_same_point(sample_of(alloc, kind, halves)?, want) {
             return Ok(Some(i));
         }
     }

@@ -136,8 +136,9 @@ pub record Takes (H : History) (i : ℕ) (waiting : List (List Side)) (e : Entry
 drop_here : (H : History) (i : ℕ) (e : Entry) → slice_get H i ≡ Some e → drop i H ≡ e ∷ drop (i + 1) H
 drop_here H i e at = drop_more H i e (slice_get_within H i e at) ∙ ap (λ (x : Entry). x ∷ drop (i + 1) H) (get_or_from_slice_get H i e e at)
 
-pub take_here : (H : History) (i : ℕ) (e : Entry) → slice_get H i ≡ Some e → take (i + 1) H ≡ take i H ++ e ∷ []
-take_here H i e at = take_more H i e (slice_get_within H i e at) ∙ ap (λ (x : Entry). take i H ++ x ∷ []) (get_or_from_slice_get H i e e at)
+-- the first items, and one more
+pub take_here : {A : Type 0} (xs : List A) (i : ℕ) (x : A) → slice_get xs i ≡ Some x → take (i + 1) xs ≡ take i xs ++ x ∷ []
+take_here {A} xs i x at = take_more xs i x (slice_get_within xs i x at) ∙ ap (λ (y : A). take i xs ++ y ∷ []) (get_or_from_slice_get xs i x x at)
 
 pub walked_takes : (H : History) (i : ℕ) (waiting : List (List Side)) (e : Entry) → IsWalked H i waiting → slice_get H i ≡ Some e → Takes H i waiting e
 walked_takes H i [] e w at = absurd (none_lists (drop i H) (drop_here H i e at) w.lists)

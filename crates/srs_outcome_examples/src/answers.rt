@@ -44,8 +44,8 @@ const EDGES: [Row; 6] = [
     ((0, 0, 1), Told::Inside, Some("gg")),
 ];
 
-// On the line x = 0 within y = 0, and left of it; on the line x + y = 0, and on both sides of it; below the line y = 0 on
-// both sides of x + y = 0.
+// Within y = 0 on both sides of x = 0; on the line x + y = 0, and on both sides of it; just below y = 0 on both sides of
+// x + y = 0.
 const LINES: [Row; 8] = [
     ((1, 0, DEEPEST), Told::Inside, Some("gg")),
     ((-1, 0, DEEPEST), Told::Outside(&[0, 1]), Some("gl")),
@@ -65,7 +65,8 @@ const LINES: [Row; 8] = [
     ((-1, -1, DEEPEST), Told::Outside(&[1]), Some("ll")),
 ];
 
-// Just inside and just outside the corner (1/8, 0), past the three edges, and far away.
+// The corner (1/8, 0), just inside it and just outside; past the edge y = 0, past the other corners and past another edge;
+// far away.
 const BEYOND: [Row; 8] = [
     ((EIGHTH, 0, DEEPEST), Told::Inside, Some("gg")),
     ((EIGHTH - 1, 0, DEEPEST), Told::Inside, Some("gg")),
@@ -92,6 +93,7 @@ const OPEN: [Row; 7] = [
     ((1, 0, 8), Told::Inside, Some("gg")),
 ];
 
+// The segment that is left, whose cause isn't taken over.
 const LEFT: [Row; 3] = [
     ((-1, 0, 8), MEMORY, Some("gl")),
     ((-1, 0, DEEPEST), MEMORY, Some("gl")),

@@ -1,10 +1,9 @@
 -- The questions of a file can be asked, and the text grows by one reply.
-use Rattle.std.proofs.Common.{◌≡◌, inl, inr, ℕ, zero, suc, List, [], ◌∷◌, ◌++◌, slice_get, take, ◌+◌, sym, ap, subst, ◌∙◌, append-nil, Some}
+use Rattle.std.proofs.Common.{◌≡◌, inl, inr, ℕ, zero, suc, List, [], ◌∷◌, ◌++◌, slice_get, sym, ap, subst, ◌∙◌, append-nil, Some}
 use Rattle.std.specs.List.{flat_map}
 use Rattle.std.specs.Prelude.{OnOk, Ok, Err}
 use Rattle.std.specs.declared.result.Result.{Result}
-use Rattle.std.proofs.lemmas.Option.{none-some, same_Some, slice_get_within, get_or_from_slice_get}
-use Rattle.std.proofs.lemmas.List.{take_more}
+use Rattle.std.proofs.lemmas.Option.{none-some, same_Some}
 use Rattle.std.proofs.lemmas.List.Concat.{flat_map-append}
 use Rattle.srs_num.specs.Points.{Point as Place}
 use Rattle.srs_plane.specs.Polygons.{region_of}
@@ -39,11 +38,6 @@ are_asked [] (q ∷ queries) are i query at = absurd are
 are_asked (text ∷ texts) [] are i query at = absurd are
 are_asked (text ∷ texts) (q ∷ queries) are zero query at = subst IsAsked (same_Some q query at) (asked_of text q are.0)
 are_asked (text ∷ texts) (q ∷ queries) are (suc i) query at = are_asked texts queries are.1 i query at
-
--- the first questions, and one more
-pub one_more : (queries : List Query) (i : ℕ) (query : Query) → slice_get queries i ≡ Some query → take (i + 1) queries ≡ take i queries ++ query ∷ []
-one_more queries i query at =
-    take_more queries i query (slice_get_within queries i query at) ∙ ap (λ (q : Query). take i queries ++ q ∷ []) (get_or_from_slice_get queries i query query at)
 
 module _ (c : CertView) where
   replies_more : (queries : List Query) (said : List Said) (query : Query) (new : Said) → AreReplies c queries said → Replies c query new

@@ -24,11 +24,13 @@ use std::alloc::Global;
 /// region; each point of a cell that is inside is finite, and at each point of one that is outside the printed cycle
 /// comes back. `check`: the bytes are the text of a certificate, each node of which proves itself, and so the same holds
 /// of its leaves. `map`: the same, and what was written is its map; each character is that of the answer at its point,
-/// over the certificate's own events. At `Bad` of `check` and `map` what was written names the first node that doesn't
-/// prove itself, and its fault. At `Refused` the bytes are no input of the command, and what was written names the first
-/// slip and its line. A good input of at most 2^20 bytes, or 2^27 where a certificate is read, ends well or for want of
-/// memory, unless an end fails. After a refusal the source has lost what was taken from it; at `NoMemory` nothing was
-/// written.
+/// over the certificate's own events. `ask`: the bytes are such a certificate and questions, and what was written has a
+/// line for each question in order: the answer at a point over the certificate's own events, with the cause that they
+/// give; for each kind of answer whether some point of a polygon has it; the first event of an orbit. At `Bad` of these
+/// three what was written names the first node that doesn't prove itself, and its fault. At `Refused` the bytes are no
+/// input of the command, and what was written names the first slip and its line. A good input of at most 2^20 bytes, or
+/// 2^27 where a certificate is read, ends well or for want of memory, unless an end fails. After a refusal the source
+/// has lost what was taken from it; at `NoMemory` nothing was written.
 pub fn plain<S: Source, K: Sink>(
     alloc: Global,
     words: &[String],

@@ -3,5 +3,5 @@ use Rattle.std.specs.List.{Contains}
 use Rattle.srs_cell.specs.Bounds.{IsLeast}
 use Rattle.srs_cell.proofs.bounds.least_corner.Given as goal
 
-abbrev pub invariant-loop-corner : goal.invariant-loop-corner
-invariant-loop-corner l = Contains l.corners l.least × IsLeast l.form (take l.corner-index l.corners) l.least
+abbrev pub invariant-loop-i : goal.invariant-loop-i
+invariant-loop-i l = Contains l.corners l.least × IsLeast l.form (take l.i l.corners) l.least
