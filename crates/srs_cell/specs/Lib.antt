@@ -3,6 +3,7 @@ pub mod Cutting
 pub mod Corners
 pub mod Bounds
 pub mod Moves
+pub mod Spans
 pub mod Sides
 pub mod Parts
 pub mod Floors

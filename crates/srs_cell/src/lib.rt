@@ -11,10 +11,11 @@ mod floors;
 mod moves;
 mod sharing;
 mod sides;
+mod spans;
 
 pub use bounds::{Bound, Quotient};
 pub use cells::Cell;
 pub use divisions::Parts;
-pub use moves::Span;
 pub use sharing::shared;
 pub use sides::{divides, is_above, is_below};
+pub use spans::Span;

@@ -4,15 +4,8 @@ ghost use Rattle.srs_map.specs.Step.{IsNarrow, minus};
 ghost use Rattle.srs_cell.specs.Floors.{form_of};
 ghost use Rattle.srs_cell.specs.Moves.{LeadsTo, LeadsBackTo, LinksTo, AreMoves};
 
-use crate::Cell;
+use crate::{Cell, Span};
 use srs_num::{Form, V2};
-
-/// The whole numbers from `low` to `high`.
-#[derive(Clone, Copy, Debug, PartialEq, Eq, Drop)]
-pub struct Span {
-    pub low: i64,
-    pub high: i64,
-}
 
 impl Cell {
     /// The second entries of the pairs to which both links of `w` lead, at the cell's points: each whole number of the span,

@@ -13,7 +13,7 @@ use Rattle.srs_cell.specs.Moves.{LeadsTo, LeadsBackTo, AreMoves}
 use Rattle.srs_path.specs.Core.{Precedes}
 use Rattle.srs_path.specs.Lists.{IsRankList}
 use Rattle.srs_check.specs.Listed.{RankList, IsListed, IsBelow, IsClosedAt, ListsUnits, ProvesInside, IsFirstUnit, IsFaultAt, IsInsideFault, IsNextAhead, IsFirstMissing}
-use Rattle.srs_check.specs.Places.{IsCount, pair_from}
+use Rattle.srs_cell.specs.Spans.{IsCount, pair_from}
 use Rattle.srs_check.specs.declared.faults.Fault.{Fault}
 use Rattle.srs_check.specs.declared.faults.Fault.TheVariants.{NotClosed, NoFall}
 use Rattle.srs_check.proofs.PlaceLemmas.{one_rank, by_place, from_place}

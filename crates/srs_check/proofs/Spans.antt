@@ -8,7 +8,8 @@ use Rattle.srs_map.specs.Step.{pair}
 use Rattle.srs_plane.specs.Regions.{Area}
 use Rattle.srs_cell.specs.Moves.{LeadsTo, LeadsBackTo, AreMoves}
 use Rattle.srs_check.specs.Listed.{RankList}
-use Rattle.srs_check.specs.Places.{IsPlaceFor, IsCount, pair_from}
+use Rattle.srs_cell.specs.Spans.{IsCount, pair_from}
+use Rattle.srs_check.specs.Places.{IsPlaceFor}
 
 -- the first k pairs of the span are good, and the next one has this place
 pub record Walked (entries : RankList) (Good : V2 → Type 0) (w : V2) (low : ℤ) (k place : ℕ) : Type 0 where

@@ -8,7 +8,7 @@ ghost use Rattle.srs_check.specs.declared.faults.Fault.TheVariants.{NoUnit, NotC
 ghost use Rattle.srs_check.specs.Listed.{IsListed, IsBelow, ListsUnits, IsClosedAt, ProvesInside, IsFirstMissing, IsFaultAt, IsUnitFault, IsInsideFault};
 
 use crate::Fault;
-use crate::places::{count, pair_at, place_for, rank_at};
+use crate::places::{place_for, rank_at};
 use srs_cell::Cell;
 use srs_map::is_origin;
 use srs_num::V2;
@@ -68,9 +68,9 @@ fn check_ahead(cell: &Cell, ranks: &Ranks, w: V2, rank: u32) -> Result<(), Fault
     ensures err { IfErr result (IsFaultAt cell.now ranks.now (w, rank)) }
 {
     let span = cell.moves(w);
-    let mut place = place_for(ranks, pair_at(w, span, 0));
-    for k in 0..count(span) {
-        let v = pair_at(w, span, k);
+    let mut place = place_for(ranks, span.pair(w, 0));
+    for k in 0..span.count() {
+        let v = span.pair(w, k);
         let Some(reached) = rank_at(ranks, place, v) else {
             return Err(not_closed(w, v));
         };
@@ -96,9 +96,9 @@ fn check_back(cell: &Cell, ranks: &Ranks, w: V2) -> Result<(), Fault>
     ensures err { IfErr result (λ fault. (j : ℤ) × (fault ≡ NotClosed w j) × IsFirstMissing cell.now ranks.now w j) }
 {
     let span = cell.wmoves(w);
-    let mut place = place_for(ranks, pair_at(w, span, 0));
-    for k in 0..count(span) {
-        let v = pair_at(w, span, k);
+    let mut place = place_for(ranks, span.pair(w, 0));
+    for k in 0..span.count() {
+        let v = span.pair(w, k);
         let Some(_) = rank_at(ranks, place, v) else {
             return Err(not_closed(w, v));
         };

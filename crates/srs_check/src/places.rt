@@ -5,36 +5,10 @@ ghost use Rattle.srs_map.specs.Step.{pair};
 ghost use Rattle.srs_path.specs.Core.{Precedes};
 ghost use Rattle.srs_path.specs.Lists.{IsRankList};
 ghost use Rattle.srs_check.specs.Listed.{IsListed};
-ghost use Rattle.srs_check.specs.Places.{IsPlaceFor, IsCount, pair_from};
+ghost use Rattle.srs_check.specs.Places.{IsPlaceFor};
 
-use srs_cell::Span;
 use srs_num::V2;
 use srs_path::Ranks;
-
-// How many numbers a span has.
-pub(crate) fn count(span: Span) -> u64
-    requires low { IsWithin (2 ^ 41) span.low }
-    requires high { IsWithin (2 ^ 41) span.high }
-    ensures { IsCount span.low span.high result }
-{
-    if span.high < span.low {
-        0
-    } else {
-        (span.high - span.low + 1) as u64
-    }
-}
-
-// The pair at the place `k` of the span of `w`.
-pub(crate) fn pair_at(w: V2, span: Span, k: u64) -> V2
-    requires low { IsWithin (2 ^ 41) span.low }
-    requires few { k < 2 ^ 43 }
-    ensures { result ≡ pair_from w span.low k }
-{
-    V2 {
-        a: w.b,
-        b: span.low + k as i64,
-    }
-}
 
 fn precedes(v: V2, w: V2) -> bool
     ensures { IsTrue result ↔ Precedes v w }

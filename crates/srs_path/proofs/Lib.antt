@@ -10,3 +10,4 @@ pub mod ChosenEdges
 pub mod RefinesSound
 pub mod RanksOnce
 pub mod OutcomeOnce
+pub mod FewEntries

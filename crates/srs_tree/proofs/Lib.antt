@@ -22,7 +22,6 @@ pub mod PlannedSteps
 pub mod Bounded
 pub mod Opened
 pub mod RoundCounts
-pub mod FewEntries
 pub mod Listed
 pub mod Ways
 pub mod Meeting

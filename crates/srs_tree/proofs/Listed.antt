@@ -25,7 +25,7 @@ use Rattle.srs_tree.proofs.PlannedWhole.{some_is}
 use Rattle.srs_tree.proofs.Bounded.{cells_bound, depth_bound, events_few, last_at_depth}
 use Rattle.srs_tree.proofs.Sorted.{Pair, entry_list, entry_found}
 use Rattle.srs_tree.proofs.Below.{parts, leaf_parts, all_begin}
-use Rattle.srs_tree.proofs.FewEntries.{few_ranks, few_cycle}
+use Rattle.srs_path.proofs.FewEntries.{few_ranks, few_cycle}
 
 pub bounded : WholeIsBounded
 bounded Root b H budget whole = record { cells = cells_bound Root b H whole budget.some_cell; depth = depth_bound Root b H whole }

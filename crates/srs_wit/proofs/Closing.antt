@@ -14,7 +14,7 @@ use Rattle.srs_map.specs.Links.{IsLink}
 use Rattle.srs_plane.specs.Regions.{Area, IsIn}
 use Rattle.srs_path.specs.Witnesses.{IsWitness, IsSmall}
 use Rattle.srs_path.proofs.WitnessLemmas.{witness_induction, small_from_list}
-use Rattle.srs_cell.specs.declared.moves.Span.{Span}
+use Rattle.srs_cell.specs.declared.spans.Span.{Span}
 use Rattle.srs_wit.specs.Listing.{AreTooMany}
 use Rattle.srs_wit.specs.Halves.{IsHeld, with_opposites, count_both}
 use Rattle.srs_wit.specs.Search.{AreHalf, AreFound, IsTooLong, Extends, IsClosedAt, HasUnits, AreAll}

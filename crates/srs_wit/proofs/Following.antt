@@ -10,8 +10,9 @@ use Rattle.srs_map.specs.Step.{pair, IsNarrow}
 use Rattle.srs_plane.specs.Regions.{Area}
 use Rattle.srs_path.specs.Witnesses.{IsWitness, link}
 use Rattle.srs_cell.specs.Moves.{LinksTo, AreMoves}
-use Rattle.srs_cell.specs.declared.moves.Span.{Span}
-use Rattle.srs_wit.specs.Spans.{IsCount, ArePairsNarrow, IsWideAmong, place_in, pair_from, pairs_from}
+use Rattle.srs_cell.specs.declared.spans.Span.{Span}
+use Rattle.srs_cell.specs.Spans.{IsCount, pair_from}
+use Rattle.srs_wit.specs.Spans.{ArePairsNarrow, IsWideAmong, place_in, pairs_from}
 use Rattle.srs_wit.specs.Listing.{AreTooMany, IsTooWide}
 use Rattle.srs_wit.specs.Halves.{IsHeld, count_both}
 use Rattle.srs_wit.specs.Search.{AreFound, IsTooLong, Adds, Extends, IsClosedAt}

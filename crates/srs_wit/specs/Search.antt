@@ -6,11 +6,11 @@ use Rattle.srs_map.specs.Links.{IsUnit}
 use Rattle.srs_plane.specs.Regions.{Area}
 use Rattle.srs_path.specs.Witnesses.{IsWitness}
 use Rattle.srs_cell.specs.Moves.{LinksTo, AreMoves}
-use Rattle.srs_cell.specs.declared.moves.Span.{Span}
+use Rattle.srs_cell.specs.declared.spans.Span.{Span}
 use Rattle.srs_wit.specs.declared.closure.Stop.{Stop}
 use Rattle.srs_wit.specs.declared.closure.Stop.TheVariants.{Over, Long, Wide, NoMemory}
 use Rattle.srs_wit.specs.Listing.{IsTooWide}
-use Rattle.srs_wit.specs.Spans.{IsCount}
+use Rattle.srs_cell.specs.Spans.{IsCount}
 use Rattle.srs_wit.specs.Halves.{IsUpper, IsUpperOf, AreNarrow, IsHeld, count_both}
 
 -- different witnesses after (0, 0), with entries within 2^37, and (0, 0) is one where it was met

@@ -3,22 +3,13 @@ use Rattle.std.specs.Prelude.{◌≡◌, ℕ, ◌+◌, ◌-◌, Bool, if◌then�
 use Rattle.std.specs.List.{range_with_len}
 use Rattle.srs_num.specs.declared.pairs.V2.{V2}
 use Rattle.srs_map.specs.Step.{pair, IsNarrow}
-
--- the n numbers from low on are those up to high
-pub record IsCount (low high : ℤ) (n : ℕ) : Type 0 where
-  pub past : high <ℤ (low +ℤ pos n)
-  pub within : (k : ℕ) → k < n → (low +ℤ pos k) ≤ℤ high
-  pub small : n ≤ 2 ^ 43
+use Rattle.srs_cell.specs.Spans.{pair_from}
 
 -- the place of the kth of n pairs, from the first one on or from the last one back
 abbrev pub place_in : Bool → ℕ → ℕ → ℕ
 place_in back n k = if back then n - (k + 1) else k
 
--- the pair that begins with the second entry of w and ends k above low
-abbrev pub pair_from : V2 → ℤ → ℕ → V2
-pair_from w low k = pair w.b (low +ℤ pos k)
-
--- the first n of these pairs
+-- the first n pairs that begin with the second entry of w, from low on
 abbrev pub pairs_from : V2 → ℤ → ℕ → List V2
 pairs_from w low n = map (pair_from w low) (range_with_len 0 n)
 

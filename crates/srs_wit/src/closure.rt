@@ -11,7 +11,7 @@ ghost use Rattle.srs_wit.specs.Search.{AreHalf, AreFound, Adds, Extends, IsClose
 
 use crate::halves::{upper, with_opposites};
 use crate::sets::{Big, WitErr, WitSet};
-use crate::spans::{count, first_pairs, is_downward, pair_at, place, wide_end};
+use crate::spans::{first_pairs, is_downward, place, wide_end};
 use indexmap::IndexSet;
 use srs_cell::{Cell, Span};
 use srs_num::{NoMemory, Pairs, V2};
@@ -180,7 +180,7 @@ impl Search {
         ensures stop { IfErr result (IsStop cell.now bound self.new.found.keys self.new.origin) }
     {
         let span = cell.links(w);
-        let n = count(span);
+        let n = span.count();
         if n > bound as u64 {
             return Err(Stop::Long(w, span));
         }
@@ -191,7 +191,7 @@ impl Search {
         // are too many witnesses, this way outwards mostly meets them sooner.
         let back = is_downward(span);
         for k in 0..n {
-            let Ok(()) = self.add(pair_at(w, span, place(back, n, k))) else {
+            let Ok(()) = self.add(span.pair(w, place(back, n, k))) else {
                 return Err(Stop::NoMemory);
             };
         }

@@ -2,37 +2,12 @@
 ghost use Rattle.std.specs.Prelude.{◌≡◌, ◌≤◌, ◌<◌, ◌^◌, ◌↔◌, pos, ◌+ℤ◌, ◌<ℤ◌, IsTrue, IfOk, MatchOption};
 ghost use Rattle.srs_num.specs.Points.{IsWithin};
 ghost use Rattle.srs_map.specs.Step.{IsNarrow};
-ghost use Rattle.srs_wit.specs.Spans.{IsCount, place_in, pair_from, pairs_from, ArePairsNarrow, IsWideAmong};
+ghost use Rattle.srs_wit.specs.Spans.{place_in, pairs_from, ArePairsNarrow, IsWideAmong};
 
 use srs_cell::Span;
 use srs_map::is_narrow;
 use srs_num::{NoMemory, Pairs, V2};
 use std::alloc::Global;
-
-// How many numbers a span has.
-pub(crate) fn count(span: Span) -> u64
-    requires low { IsWithin (2 ^ 41) span.low }
-    requires high { IsWithin (2 ^ 41) span.high }
-    ensures { IsCount span.low span.high result }
-{
-    if span.high < span.low {
-        0
-    } else {
-        (span.high - span.low + 1) as u64
-    }
-}
-
-// The pair at place `k` of the span of `w`.
-pub(crate) fn pair_at(w: V2, span: Span, k: u64) -> V2
-    requires low { IsWithin (2 ^ 41) span.low }
-    requires few { k < 2 ^ 43 }
-    ensures { result ≡ pair_from w span.low k }
-{
-    V2 {
-        a: w.b,
-        b: span.low + k as i64,
-    }
-}
 
 // Whether the first number of the span is greater in magnitude than the last one.
 pub(crate) fn is_downward(span: Span) -> bool
@@ -85,7 +60,7 @@ pub(crate) fn first_pairs(alloc: Global, w: V2, span: Span, n: u64) -> Result<Pa
 {
     let mut pairs = Pairs::new(alloc);
     for k in 0..n {
-        match pairs.push(pair_at(w, span, k)) {
+        match pairs.push(span.pair(w, k)) {
             Ok(()) => {}
             Err(_) => return Err(NoMemory),
         }

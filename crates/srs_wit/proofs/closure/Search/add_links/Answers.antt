@@ -1,7 +1,7 @@
 use Rattle.std.proofs.Common.{arith, ap, subst, sym, ◌∙◌}
 use Rattle.srs_map.specs.Step.{IsNarrow}
 use Rattle.srs_path.specs.Witnesses.{IsWitness}
-use Rattle.srs_wit.specs.Spans.{pair_from}
+use Rattle.srs_cell.specs.Spans.{pair_from}
 use Rattle.srs_wit.proofs.Adding.{on_ok}
 use Rattle.srs_wit.proofs.Following.{adding_none, adding_more, pair_narrow, all_added, witness_at, wide_shown}
 use Rattle.srs_wit.proofs.closure.Search.add_links.Goals as goal
@@ -17,10 +17,10 @@ returns-then-n-bound-clause-stop c = record {
 
 pub loop-k-preserved : goal.loop-k-preserved
 loop-k-preserved c =
-    let h : IsWitness c.args.cell.now c.pair_at.result = subst (IsWitness c.args.cell.now) (sym c.pair_at.ensures)
+    let h : IsWitness c.args.cell.now c.pair.result = subst (IsWitness c.args.cell.now) (sym c.pair.ensures)
     (witness_at c.args.cell.now c.args.w c.links-span.result.low c.links-span.result.high c.count-n.result c.links-span.ensures c.count-n.ensures c.requires.witness c.place.result (omega (arith, c.place.ensures.within))) in
     adding_more c.args.cell.now c.args.bound c.args.self.now.found.keys c.args.self.now.origin c.args.w c.links-span.result.low c.args.self.now.waiting.items _ c.count-n.result c.loop-k.k
-    c.loop-k.self.found.keys c.loop-k.self.origin c.add.new.self.found.keys c.add.new.self.origin c.loop-k.self.waiting.items c.add.new.self.waiting.items c.pair_at.result c.loop-k.invariant h (c.pair_at.ensures ∙ ap (pair_from c.args.w c.links-span.result.low) c.place.ensures.place) c.in-Ok.ensures
+    c.loop-k.self.found.keys c.loop-k.self.origin c.add.new.self.found.keys c.add.new.self.origin c.loop-k.self.waiting.items c.add.new.self.waiting.items c.pair.result c.loop-k.invariant h (c.pair.ensures ∙ ap (pair_from c.args.w c.links-span.result.low) c.place.ensures.place) c.in-Ok.ensures
 
 pub returns-clause-closed : goal.returns-clause-closed
 returns-clause-closed c =
@@ -37,7 +37,7 @@ loop-k-init c =
 
 pub add-requires : goal.add-requires
 add-requires c =
-    subst IsNarrow (sym c.pair_at.ensures)
+    subst IsNarrow (sym c.pair.ensures)
     (pair_narrow c.args.w c.links-span.result.low c.links-span.result.high c.count-n.result c.in_default.ensures c.count-n.ensures c.place.result c.place.ensures.within)
 
 pub returns-clause-extends : goal.returns-clause-extends
