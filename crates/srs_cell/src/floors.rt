@@ -125,6 +125,7 @@ fn lesser(a: i64, b: i64) -> i64
 }
 
 // The least floors at some corners, by numbers of 128 bits.
+#[inline(never)]
 fn wide_floors(corners: &[Corner], w: V2) -> Floors
     requires some { 1 ≤ length corners.now }
     requires near { All IsNear corners.now }

@@ -4,4 +4,4 @@
 
 mod refinement;
 
-pub use refinement::refine;
+pub use refinement::{Refiner, refine};

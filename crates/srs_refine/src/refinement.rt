@@ -12,8 +12,41 @@ use srs_graph::Graph;
 use srs_grid::line;
 use srs_num::NoMemory;
 use srs_path::{Cause, Cycle, Finding, Last, Outcome, Why};
-use srs_wit::{WitSet, small_witnesses};
+use srs_wit::{Searcher, WitSet};
 use std::alloc::Global;
+
+/// Memory for the outcomes of cells, which is kept from one to the next.
+#[derive(Drop)]
+pub struct Refiner {
+    searcher: Searcher,
+}
+
+impl Refiner {
+    /// Its room is that for cells with a bound of `w` on their witnesses.
+    pub fn new(alloc: Global, w: u32) -> Result<Refiner, NoMemory> {
+        let searcher = Searcher::new(alloc, w)?;
+        Ok(Refiner { searcher })
+    }
+
+    /// As the function of this name, for one cell after another. After an `Err` too it may be used for other cells.
+    pub fn refine(
+        &mut self,
+        alloc: Global,
+        cell: &Cell,
+        last: Option<Last>,
+        w: u32,
+    ) -> Result<Finding, NoMemory>
+        requires some { 1 ≤ w }
+        requires few { w ≤ 16384 }
+        ensures region { IfOk result (λ finding. finding.region ≡ cell.now) }
+        ensures w { IfOk result (λ finding. finding.w ≡ w) }
+        ensures outcome { IfOk result (λ finding. Refines cell.now last w finding.outcome) }
+    {
+        let outcome = outcome_of(alloc, &mut self.searcher, cell, last, w)?;
+        let region = cell.region().copy(alloc)?;
+        Ok(Finding::found(region, w, outcome))
+    }
+}
 
 /// The outcome of the cell, for a bound `w` from 1 to 16384 on its witnesses, where `last` is the limit that is spent.
 ///
@@ -27,18 +60,23 @@ pub fn refine(alloc: Global, cell: &Cell, last: Option<Last>, w: u32) -> Result<
     ensures w { IfOk result (λ finding. finding.w ≡ w) }
     ensures outcome { IfOk result (λ finding. Refines cell.now last w finding.outcome) }
 {
-    let outcome = outcome_of(alloc, cell, last, w)?;
-    let region = cell.region().copy(alloc)?;
-    Ok(Finding::found(region, w, outcome))
+    let mut refiner = Refiner::new(alloc, w)?;
+    refiner.refine(alloc, cell, last, w)
 }
 
 // The outcome of the cell.
-fn outcome_of(alloc: Global, cell: &Cell, last: Option<Last>, w: u32) -> Result<Outcome, NoMemory>
+fn outcome_of(
+    alloc: Global,
+    searcher: &mut Searcher,
+    cell: &Cell,
+    last: Option<Last>,
+    w: u32,
+) -> Result<Outcome, NoMemory>
     requires some { 1 ≤ w }
     requires few { w ≤ 16384 }
     ensures { IfOk result (Refines cell.now last w) }
 {
-    match small_witnesses(alloc, cell, w)? {
+    match searcher.small_witnesses(alloc, cell, w)? {
         Some(set) => of_small(alloc, cell, &set, last),
         None => Ok(of_large(cell, last)),
     }

@@ -8,7 +8,7 @@ ghost use Rattle.srs_tool.specs.Refined.{IsRefined, StartsRound, GetsOutcome};
 use srs_cell::Cell;
 use srs_num::NoMemory;
 use srs_path::{Last, Limits};
-use srs_refine::refine;
+use srs_refine::Refiner;
 use srs_tree::{Pending, TreeErr, Version};
 use std::alloc::Global;
 
@@ -19,11 +19,20 @@ pub fn rounds(alloc: Global, cell: Cell, limits: &Limits) -> Result<Version, NoM
     ensures { IfOk result (IsRefined cell limits.now) }
 {
     let mut version = Version::start(alloc, cell)?;
+    let mut refiner = Refiner::new(alloc, limits.wits())?;
     let mut waiting = Vec::new(alloc);
     push(&mut waiting, version.root()?)?;
     let mut cells = 1;
     for number in 0..limits.depth() + 1 {
-        waiting = refine_round(alloc, limits, number, cells, &mut version, &waiting)?;
+        waiting = refine_round(
+            alloc,
+            &mut refiner,
+            limits,
+            number,
+            cells,
+            &mut version,
+            &waiting,
+        )?;
         cells += waiting.len() as u64;
     }
     Ok(version)
@@ -32,6 +41,7 @@ pub fn rounds(alloc: Global, cell: Cell, limits: &Limits) -> Result<Version, NoM
 // Refines the cells of a round, where the tree has so many cells, and gives those of the next.
 fn refine_round(
     alloc: Global,
+    refiner: &mut Refiner,
     limits: &Limits,
     number: u32,
     cells: u64,
@@ -46,7 +56,7 @@ fn refine_round(
     let last = limits.last(number, cells, waiting.len() as u64);
     let mut next = Vec::new(alloc);
     for pending in waiting {
-        refine_cell(alloc, wits, last, version, pending, &mut next)?;
+        refine_cell(alloc, refiner, wits, last, version, pending, &mut next)?;
     }
     Ok(next)
 }
@@ -54,6 +64,7 @@ fn refine_round(
 // Refines one cell that waits, and adds its outcome.
 fn refine_cell(
     alloc: Global,
+    refiner: &mut Refiner,
     wits: u32,
     last: Option<Last>,
     version: &mut Version,
@@ -67,7 +78,7 @@ fn refine_cell(
     requires short { last ≡ None → length pending.now.path < 48 }
     ensures { OnOk result (GetsOutcome last wits version.old version.new pending.now next.old.items next.new.items) }
 {
-    let finding = refine(alloc, &pending.cell, last, wits)?;
+    let finding = refiner.refine(alloc, &pending.cell, last, wits)?;
     match version.add(alloc, pending.path, finding) {
         Ok(Some((ge, lt))) => {
             push(next, ge)?;

@@ -1,11 +1,12 @@
 -- What one more pair makes of those found.
-use Rattle.std.proofs.Common.{◌≡◌, ◌≢◌, ◌⊎◌, inl, inr, zero, suc, ◌^◌, ◌≤◌, List, [], ◌∷◌, ◌++◌, Bool, true, false, IsTrue, arith, ap, subst, sym, ◌∙◌, refl, lit<, pos, append_assoc, length-append}
+use Rattle.std.proofs.Common.{◌≡◌, ◌≢◌, ◌⊎◌, inl, inr, zero, suc, ◌^◌, ◌≤◌, List, [], ◌∷◌, ◌++◌, Bool, true, false, IsTrue, arith, ap, subst, sym, ◌∙◌, refl, lit<, pos, append_assoc, length-append, get_or}
 use Rattle.std.specs.Prelude.{Contains, AllPairs, if◌then◌else◌, not, Result, Ok, Err, OnOk, IfOk}
-use Rattle.std.specs.List.{list_any, IsDistinct}
+use Rattle.std.specs.List.{list_any}
 use Rattle.std.proofs.lemmas.Bool.{false≢true}
 use Rattle.std.proofs.lemmas.List.{append-nil}
-use Rattle.std.proofs.lemmas.List.Elements.{Contains-append_left, Contains-append_right, Contains-append_cases}
-use Rattle.std.proofs.lemmas.Map.Made.{AllPairs-from_IsDistinct}
+use Rattle.std.proofs.lemmas.List.Elements.{Contains-append_left, Contains-append_right, Contains-append_cases, Contains-get_or}
+use Rattle.std.proofs.lemmas.List.Folds.{list_any_at}
+use Rattle.std.proofs.lemmas.List.Quantifiers.{all_pairs_push}
 use Rattle.std.proofs.lemmas.Map.Views.{Contains-from_any}
 use Rattle.indexmap.specs.IndexSet.{insert_key}
 use Rattle.srs_num.specs.declared.pairs.V2.{V2}
@@ -29,7 +30,7 @@ mirror_held ws met v (inl c) = inr (inl (subst (Contains ws) (sym (minus_twice v
 mirror_held ws met v (inr (inl c)) = inl c
 mirror_held ws met v (inr (inr c)) = inr (inr (ap minus c.0, c.1))
 
-upper_narrow : (v u : V2) → IsUpperOf v u → IsNarrow v → IsNarrow u
+pub upper_narrow : (v u : V2) → IsUpperOf v u → IsNarrow v → IsNarrow u
 upper_narrow v u (h, inl e) n = subst IsNarrow (sym e) n
 upper_narrow v u (h, inr e) n = subst IsNarrow (sym e) (within_opposite v.a (2 ^ 37) n.0, within_opposite v.b (2 ^ 37) n.1)
 
@@ -41,11 +42,11 @@ upper_held : (ws : List V2) (met : Bool) (v u : V2) → IsUpperOf v u → Contai
 upper_held ws met v u (h, inl e) c = inl (subst (Contains ws) e c)
 upper_held ws met v u (h, inr e) c = inr (inl (subst (Contains ws) e c))
 
--- an insertion of u, the upper one of v and -v, by what it answered
-module _ (old : List V2) (was : Bool) (v u : V2) (new : List V2) (e : new ≡ insert_key pair_eq old u) (d : IsDistinct pair_eq new) (upper : IsUpperOf v u) where
-  different : AllPairs ◌≢◌ new
-  different = AllPairs-from_IsDistinct pair-decides new d
+absent_pair : (vs : List V2) (v : V2) → list_any (pair_eq v) vs ≡ false → Contains vs v → ⊥
+absent_pair vs v t c = false≢true (sym t ∙ list_any_at (pair_eq v) vs c.0 v c.1 ((pair-decides v (get_or vs c.0 v)).1 (sym c.2)))
 
+-- an insertion of u, the upper one of v and -v, by what it answered
+module _ (old : List V2) (was : Bool) (v u : V2) (new : List V2) (e : new ≡ insert_key pair_eq old u) (upper : IsUpperOf v u) where
   by_test : (b : Bool) → list_any (pair_eq u) old ≡ b → new ≡ (if b then old else old ++ u ∷ [])
   by_test b t = e ∙ ap (λ (x : Bool). if x then old else old ++ u ∷ []) t
 
@@ -60,7 +61,7 @@ module _ (old : List V2) (was : Bool) (v u : V2) (new : List V2) (e : new ≡ in
         others = λ w c. inl (subst (λ (x : List V2). Contains x w) s c);
         center = inl;
         stays = λ h. h;
-        different = λ _. different;
+        different = λ h. subst (AllPairs ◌≢◌) (sym s) h;
         narrow = n;
         few = rw s (omega arith);
       }
@@ -84,7 +85,7 @@ module _ (old : List V2) (was : Bool) (v u : V2) (new : List V2) (e : new ≡ in
       others = others;
       center = inl;
       stays = λ h. h;
-      different = λ _. different;
+      different = λ h. subst (AllPairs ◌≢◌) (sym grown) (all_pairs_push ◌≢◌ old u h (λ k d lt same. absent_pair old u t (subst (Contains old) same (Contains-get_or old k d lt))));
       narrow = n;
       few = rw grown (omega (arith, length-append old (u ∷ [])));
     }

@@ -4,3 +4,5 @@ pub mod Adding
 pub mod Following
 pub mod Closing
 pub mod Sorting
+pub mod Marking
+pub mod Indexing

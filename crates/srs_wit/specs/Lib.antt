@@ -3,3 +3,5 @@ pub mod Listing
 pub mod Spans
 pub mod Search
 pub mod Halves
+pub mod Marks
+pub mod PairSets

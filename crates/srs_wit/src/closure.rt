@@ -1,6 +1,5 @@
 // The search for all witnesses of a cell.
 ghost use Rattle.std.specs.Prelude.{◌≡◌, ℕ, ◌+◌, ◌<◌, ◌≤◌, ◌^◌, false, [], take, List, Bool, MatchOption, IfSome, OnOk, IfOk, IfErr};
-ghost use Rattle.indexmap.specs.IndexSet.{IsEmpty};
 ghost use Rattle.srs_map.specs.Step.{IsNarrow};
 ghost use Rattle.srs_num.specs.declared.pairs.V2.{V2};
 ghost use Rattle.srs_plane.specs.Regions.{Area};
@@ -10,9 +9,9 @@ ghost use Rattle.srs_wit.specs.Halves.{AreNarrow, count_both, with_opposites};
 ghost use Rattle.srs_wit.specs.Search.{AreHalf, AreFound, Adds, Extends, IsClosedAt, HasUnits, AreAll, IsStop};
 
 use crate::halves::{upper, with_opposites};
+use crate::pair_set::PairSet;
 use crate::sets::{Big, WitErr, WitSet};
 use crate::spans::{first_pairs, is_downward, place, wide_end};
-use indexmap::IndexSet;
 use srs_cell::{Cell, Span};
 use srs_num::{NoMemory, Pairs, V2};
 use std::alloc::Global;
@@ -22,7 +21,7 @@ use std::alloc::Global;
 // links of -w are the mirrored links of w.
 #[derive(Drop)]
 struct Search {
-    found: IndexSet<V2>,
+    found: PairSet,
     origin: bool,
     waiting: Vec<V2>,
 }
@@ -40,7 +39,22 @@ pub(crate) enum Stop {
 }
 
 // The most pairs for which there is room at first.
-const ROOM: usize = 512;
+const ROOM: usize = 2304;
+
+// Below which entries pairs are looked up fast: the more of them there may be, the further away they are.
+fn side_of(bound: u32) -> usize
+    ensures { result ≤ 2 ^ 10 }
+{
+    if bound <= 128 {
+        32
+    } else if bound <= 1024 {
+        88
+    } else if bound <= 4096 {
+        384
+    } else {
+        768
+    }
+}
 
 // The refusal that shows these witnesses.
 fn too_many(shown: Result<Pairs, NoMemory>, bound: u32) -> WitErr
@@ -55,14 +69,12 @@ fn too_many(shown: Result<Pairs, NoMemory>, bound: u32) -> WitErr
 impl Search {
     // Nothing found yet. There is room for as many as the bound allows, up to a table that costs little to make.
     fn new(alloc: Global, bound: u32) -> Result<Search, NoMemory>
-        ensures found { IfOk result (λ search. IsEmpty search.found) }
+        ensures found { IfOk result (λ search. search.found ≡ []) }
         ensures origin { IfOk result (λ search. search.origin ≡ false) }
         ensures waiting { IfOk result (λ search. search.waiting.items ≡ []) }
     {
         let room = (bound as usize / 2 + 1).min(ROOM);
-        let Ok(found) = IndexSet::with_capacity(alloc, room) else {
-            return Err(NoMemory);
-        };
+        let found = PairSet::new(alloc, room, side_of(bound))?;
         let Ok(waiting) = Vec::with_capacity(alloc, room) else {
             return Err(NoMemory);
         };
@@ -73,10 +85,21 @@ impl Search {
         })
     }
 
+    // Begins anew, with nothing found.
+    fn clear(&mut self)
+        ensures found { self.new.found ≡ [] }
+        ensures origin { self.new.origin ≡ false }
+        ensures waiting { self.new.waiting.items ≡ [] }
+    {
+        self.found.clear();
+        self.origin = false;
+        self.waiting.clear();
+    }
+
     // How many witnesses were found, on both sides of (0,0).
     fn count(&self) -> u64
-        requires { count_both self.now.found.keys self.now.origin ≤ 2 ^ 34 }
-        ensures { result ≡ count_both self.now.found.keys self.now.origin }
+        requires { count_both self.now.found self.now.origin ≤ 2 ^ 34 }
+        ensures { result ≡ count_both self.now.found self.now.origin }
     {
         let half = self.found.len() as u64;
         if self.origin { 2 * half + 1 } else { 2 * half }
@@ -84,9 +107,9 @@ impl Search {
 
     // The first `n` of them.
     fn first(&self, alloc: Global, n: u64) -> Result<Pairs, NoMemory>
-        requires narrow { AreNarrow self.now.found.keys }
-        requires few { n ≤ count_both self.now.found.keys self.now.origin }
-        ensures { IfOk result (λ ps. ps ≡ take n (with_opposites self.now.found.keys self.now.origin)) }
+        requires narrow { AreNarrow self.now.found }
+        requires few { n ≤ count_both self.now.found self.now.origin }
+        ensures { IfOk result (λ ps. ps ≡ take n (with_opposites self.now.found self.now.origin)) }
     {
         let all = with_opposites(alloc, self.found.as_slice(), self.origin)?;
         Pairs::from_slice(alloc, &all[..n as usize])
@@ -94,9 +117,9 @@ impl Search {
 
     // Whether the search goes on: those that were found aren't more than the bound.
     fn within(&self, bound: u32) -> Result<(), Stop>
-        requires { count_both self.now.found.keys self.now.origin ≤ 2 ^ 34 }
-        ensures few { OnOk result (count_both self.now.found.keys self.now.origin ≤ bound) }
-        ensures stop { (R : Area) → AreHalf R self.now.found.keys self.now.origin → IfErr result (IsStop R bound self.now.found.keys self.now.origin) }
+        requires { count_both self.now.found self.now.origin ≤ 2 ^ 34 }
+        ensures few { OnOk result (count_both self.now.found self.now.origin ≤ bound) }
+        ensures stop { (R : Area) → AreHalf R self.now.found self.now.origin → IfErr result (IsStop R bound self.now.found self.now.origin) }
     {
         if self.count() > bound as u64 {
             return Err(Stop::Over);
@@ -106,16 +129,16 @@ impl Search {
 
     // The refusal that shows one more of them than the bound.
     fn excess(&self, alloc: Global, bound: u32) -> WitErr
-        requires narrow { AreNarrow self.now.found.keys }
-        requires many { bound < count_both self.now.found.keys self.now.origin }
-        ensures { (R : Area) → AreHalf R self.now.found.keys self.now.origin → IsExcess R bound result }
+        requires narrow { AreNarrow self.now.found }
+        requires many { bound < count_both self.now.found self.now.origin }
+        ensures { (R : Area) → AreHalf R self.now.found self.now.origin → IsExcess R bound result }
     {
         too_many(self.first(alloc, bound as u64 + 1), bound)
     }
 
     // The refusal that shows why the search stopped.
     fn refusal(&self, alloc: Global, cell: &Cell, bound: u32, stop: Stop) -> WitErr
-        requires { IsStop cell.now bound self.now.found.keys self.now.origin stop }
+        requires { IsStop cell.now bound self.now.found self.now.origin stop }
         ensures { IsExcess cell.now bound result }
     {
         let _cell = cell;
@@ -133,7 +156,7 @@ impl Search {
     #[inline(always)]
     fn add(&mut self, v: V2) -> Result<(), NoMemory>
         requires { IsNarrow v }
-        ensures { OnOk result (Adds self.old.found.keys self.old.origin v self.new.found.keys self.new.origin self.old.waiting.items self.new.waiting.items) }
+        ensures { OnOk result (Adds self.old.found self.old.origin v self.new.found self.new.origin self.old.waiting.items self.new.waiting.items) }
     {
         let Some(u) = upper(v) else {
             self.origin = true;
@@ -152,13 +175,13 @@ impl Search {
 
     // Adds the units.
     fn add_units(&mut self, bound: u32) -> Result<(), Stop>
-        requires found { IsEmpty self.old.found }
+        requires found { self.old.found ≡ [] }
         requires origin { self.old.origin ≡ false }
         requires waiting { self.old.waiting.items ≡ [] }
-        ensures found { (R : Area) → OnOk result (Extends R [] false self.new.found.keys self.new.origin [] self.new.waiting.items) }
-        ensures few { OnOk result (count_both self.new.found.keys self.new.origin ≤ bound) }
-        ensures units { OnOk result (HasUnits self.new.found.keys self.new.origin) }
-        ensures stop { (R : Area) → IfErr result (IsStop R bound self.new.found.keys self.new.origin) }
+        ensures found { (R : Area) → OnOk result (Extends R [] false self.new.found self.new.origin [] self.new.waiting.items) }
+        ensures few { OnOk result (count_both self.new.found self.new.origin ≤ bound) }
+        ensures units { OnOk result (HasUnits self.new.found self.new.origin) }
+        ensures stop { (R : Area) → IfErr result (IsStop R bound self.new.found self.new.origin) }
     {
         let Ok(()) = self.add(V2 { a: 1, b: 0 }) else {
             return Err(Stop::NoMemory);
@@ -173,11 +196,11 @@ impl Search {
     fn add_links(&mut self, cell: &Cell, bound: u32, w: V2) -> Result<(), Stop>
         requires narrow { IsNarrow w }
         requires witness { IsWitness cell.now w }
-        requires found { AreFound cell.now bound self.old.found.keys self.old.origin }
-        ensures extends { OnOk result (Extends cell.now self.old.found.keys self.old.origin self.new.found.keys self.new.origin self.old.waiting.items self.new.waiting.items) }
-        ensures few { OnOk result (count_both self.new.found.keys self.new.origin ≤ bound) }
-        ensures closed { OnOk result (IsClosedAt cell.now self.new.found.keys self.new.origin w) }
-        ensures stop { IfErr result (IsStop cell.now bound self.new.found.keys self.new.origin) }
+        requires found { AreFound cell.now bound self.old.found self.old.origin }
+        ensures extends { OnOk result (Extends cell.now self.old.found self.old.origin self.new.found self.new.origin self.old.waiting.items self.new.waiting.items) }
+        ensures few { OnOk result (count_both self.new.found self.new.origin ≤ bound) }
+        ensures closed { OnOk result (IsClosedAt cell.now self.new.found self.new.origin w) }
+        ensures stop { IfErr result (IsStop cell.now bound self.new.found self.new.origin) }
     {
         let span = cell.links(w);
         let n = span.count();
@@ -200,11 +223,11 @@ impl Search {
 
     // Finds all witnesses. The newest pair goes first.
     fn find_all(&mut self, cell: &Cell, bound: u32) -> Result<(), Stop>
-        requires found { IsEmpty self.old.found }
+        requires found { self.old.found ≡ [] }
         requires origin { self.old.origin ≡ false }
         requires waiting { self.old.waiting.items ≡ [] }
-        ensures all { OnOk result (AreAll cell.now bound self.new.found.keys self.new.origin) }
-        ensures stop { IfErr result (IsStop cell.now bound self.new.found.keys self.new.origin) }
+        ensures all { OnOk result (AreAll cell.now bound self.new.found self.new.origin) }
+        ensures stop { IfErr result (IsStop cell.now bound self.new.found self.new.origin) }
     {
         self.add_units(bound)?;
         while let Some(w) = self.waiting.pop() {
@@ -215,8 +238,8 @@ impl Search {
 
     // All the witnesses, ascending: the half is sorted, and the other half is its mirror image.
     fn ascending(&self, alloc: Global) -> Result<Vec<V2>, NoMemory>
-        requires { AreNarrow self.now.found.keys }
-        ensures { (R : Area) (W : ℕ) → AreAll R W self.now.found.keys self.now.origin → IfOk result (λ all. AreAllWitnesses R all.items) }
+        requires { AreNarrow self.now.found }
+        ensures { (R : Area) (W : ℕ) → AreAll R W self.now.found self.now.origin → IfOk result (λ all. AreAllWitnesses R all.items) }
     {
         let mut half = match Vec::from_slice(alloc, self.found.as_slice()) {
             Ok(half) => half,
@@ -249,6 +272,40 @@ pub fn witnesses(alloc: Global, cell: &Cell, w: u32) -> Result<WitSet, WitErr>
     }
 }
 
+/// Memory for searches, which is kept from cell to cell.
+#[derive(Drop)]
+pub struct Searcher {
+    search: Search,
+}
+
+impl Searcher {
+    /// Its room is that for cells with a bound of `w` on their witnesses. A search with another bound takes more as it goes.
+    pub fn new(alloc: Global, w: u32) -> Result<Searcher, NoMemory> {
+        let search = Search::new(alloc, w)?;
+        Ok(Searcher { search })
+    }
+
+    /// As the function of this name, for one cell after another. After an `Err` too it may be used for other cells.
+    pub fn small_witnesses(
+        &mut self,
+        alloc: Global,
+        cell: &Cell,
+        w: u32,
+    ) -> Result<Option<WitSet>, NoMemory>
+        requires some { 1 ≤ w }
+        requires few { w ≤ 16384 }
+        ensures list { IfOk result (λ found. IfSome found (AreAllWitnesses cell.now)) }
+        ensures small { IfOk result (λ found. MatchOption found (IsSmall cell.now w → ⊥) (λ _. IsSmall cell.now w)) }
+    {
+        self.search.clear();
+        if let Err(stop) = self.search.find_all(cell, w) {
+            shows_large(&stop)?;
+            return Ok(None);
+        }
+        Ok(Some(WitSet::new(self.search.ascending(alloc)?)))
+    }
+}
+
 /// The witnesses of the cell, for a bound `w` from 1 to 16384 on their number, or `None` exactly where the cell isn't
 /// small. It is the call for whoever asks for nothing that shows this: of a cell that isn't small it lists no witness.
 pub fn small_witnesses(alloc: Global, cell: &Cell, w: u32) -> Result<Option<WitSet>, NoMemory>
@@ -257,12 +314,8 @@ pub fn small_witnesses(alloc: Global, cell: &Cell, w: u32) -> Result<Option<WitS
     ensures list { IfOk result (λ found. IfSome found (AreAllWitnesses cell.now)) }
     ensures small { IfOk result (λ found. MatchOption found (IsSmall cell.now w → ⊥) (λ _. IsSmall cell.now w)) }
 {
-    let mut search = Search::new(alloc, w)?;
-    if let Err(stop) = search.find_all(cell, w) {
-        shows_large(&stop)?;
-        return Ok(None);
-    }
-    Ok(Some(WitSet::new(search.ascending(alloc)?)))
+    let mut searcher = Searcher::new(alloc, w)?;
+    searcher.small_witnesses(alloc, cell, w)
 }
 
 // That the search stopped shows that the cell isn't small, but for want of memory.

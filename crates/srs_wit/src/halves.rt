@@ -19,11 +19,11 @@ pub(crate) fn upper(v: V2) -> Option<V2>
     requires { IsNarrow v }
     ensures { MatchOption result (v ≡ origin) (IsUpperOf v) }
 {
-    if v.a < 0 || (v.a <= 0 && v.b < 0) {
-        return Some(minus(v));
-    }
-    if v.a > 0 || v.b > 0 {
+    if v.a > 0 || (v.a == 0 && v.b > 0) {
         return Some(v);
+    }
+    if v.a < 0 || v.b < 0 {
+        return Some(minus(v));
     }
     None
 }

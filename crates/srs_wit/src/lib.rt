@@ -5,8 +5,10 @@
 mod closure;
 mod halves;
 pub mod laws;
+mod marks;
+mod pair_set;
 mod sets;
 mod spans;
 
-pub use closure::{small_witnesses, witnesses};
+pub use closure::{Searcher, small_witnesses, witnesses};
 pub use sets::{Big, WitErr, WitSet};

@@ -5,9 +5,10 @@ ghost use Rattle.srs_map.specs.Step.{IsNarrow};
 ghost use Rattle.srs_wit.specs.Spans.{place_in, pairs_from, ArePairsNarrow, IsWideAmong};
 
 use srs_cell::Span;
-use srs_map::is_narrow;
 use srs_num::{NoMemory, Pairs, V2};
 use std::alloc::Global;
+
+const WIDEST: i64 = 1 << 37;
 
 // Whether the first number of the span is greater in magnitude than the last one.
 pub(crate) fn is_downward(span: Span) -> bool
@@ -35,19 +36,17 @@ pub(crate) fn wide_end(w: V2, span: Span) -> Option<V2>
     if span.low > span.high {
         return None;
     }
-    let first = V2 {
-        a: w.b,
-        b: span.low,
-    };
-    if !is_narrow(first) {
-        return Some(first);
+    if span.low < -WIDEST {
+        return Some(V2 {
+            a: w.b,
+            b: span.low,
+        });
     }
-    let last = V2 {
-        a: w.b,
-        b: span.high,
-    };
-    if !is_narrow(last) {
-        return Some(last);
+    if span.high > WIDEST {
+        return Some(V2 {
+            a: w.b,
+            b: span.high,
+        });
     }
     None
 }

@@ -11,4 +11,4 @@ returns-in-Ok-ascending-clause-list c =
     subst (AreAllWitnesses c.args.cell.now) (sym c.new-in-Ok-ascending.ensures) (c.in-Ok-ascending.ensures c.args.cell.now c.args.w c.in_default-find_all.ensures.all)
 
 pub returns-in-Ok-ascending-clause-small : goal.returns-in-Ok-ascending-clause-small
-returns-in-Ok-ascending-clause-small c = small_from_all c.args.cell.now c.args.w c.find_all.new.self.found.keys c.find_all.new.self.origin c.in_default-find_all.ensures.all
+returns-in-Ok-ascending-clause-small c = small_from_all c.args.cell.now c.args.w c.find_all.new.self.found c.find_all.new.self.origin c.in_default-find_all.ensures.all

@@ -19,21 +19,21 @@ pub loop-k-preserved : goal.loop-k-preserved
 loop-k-preserved c =
     let h : IsWitness c.args.cell.now c.pair.result = subst (IsWitness c.args.cell.now) (sym c.pair.ensures)
     (witness_at c.args.cell.now c.args.w c.links-span.result.low c.links-span.result.high c.count-n.result c.links-span.ensures c.count-n.ensures c.requires.witness c.place.result (omega (arith, c.place.ensures.within))) in
-    adding_more c.args.cell.now c.args.bound c.args.self.now.found.keys c.args.self.now.origin c.args.w c.links-span.result.low c.args.self.now.waiting.items _ c.count-n.result c.loop-k.k
-    c.loop-k.self.found.keys c.loop-k.self.origin c.add.new.self.found.keys c.add.new.self.origin c.loop-k.self.waiting.items c.add.new.self.waiting.items c.pair.result c.loop-k.invariant h (c.pair.ensures ∙ ap (pair_from c.args.w c.links-span.result.low) c.place.ensures.place) c.in-Ok.ensures
+    adding_more c.args.cell.now c.args.bound c.args.self.now.found c.args.self.now.origin c.args.w c.links-span.result.low c.args.self.now.waiting.items _ c.count-n.result c.loop-k.k
+    c.loop-k.self.found c.loop-k.self.origin c.add.new.self.found c.add.new.self.origin c.loop-k.self.waiting.items c.add.new.self.waiting.items c.pair.result c.loop-k.invariant h (c.pair.ensures ∙ ap (pair_from c.args.w c.links-span.result.low) c.place.ensures.place) c.in-Ok.ensures
 
 pub returns-clause-closed : goal.returns-clause-closed
 returns-clause-closed c =
     on_ok c.within.result _
-    (all_added c.args.cell.now c.args.bound c.args.self.now.found.keys c.args.self.now.origin c.args.w c.links-span.result.low c.args.self.now.waiting.items _ c.count-n.result c.links-span.result.high c.loop-k.k
-    c.loop-k.self.found.keys c.loop-k.self.origin c.loop-k.self.waiting.items c.links-span.ensures c.count-n.ensures (omega arith) c.loop-k.invariant)
+    (all_added c.args.cell.now c.args.bound c.args.self.now.found c.args.self.now.origin c.args.w c.links-span.result.low c.args.self.now.waiting.items _ c.count-n.result c.links-span.result.high c.loop-k.k
+    c.loop-k.self.found c.loop-k.self.origin c.loop-k.self.waiting.items c.links-span.ensures c.count-n.ensures (omega arith) c.loop-k.invariant)
 
 pub returns-in-Some-clause-stop : goal.returns-in-Some-clause-stop
 returns-in-Some-clause-stop c = wide_shown c.args.cell.now c.args.w c.links-span.result.low c.links-span.result.high _ c.links-span.ensures c.requires.witness c.in-Some.ensures
 
 pub loop-k-init : goal.loop-k-init
 loop-k-init c =
-    adding_none c.args.cell.now c.args.bound c.args.self.now.found.keys c.args.self.now.origin c.args.w c.links-span.result.low c.args.self.now.waiting.items c.is_downward-back.result c.count-n.result c.requires.found
+    adding_none c.args.cell.now c.args.bound c.args.self.now.found c.args.self.now.origin c.args.w c.links-span.result.low c.args.self.now.waiting.items c.is_downward-back.result c.count-n.result c.requires.found
 
 pub add-requires : goal.add-requires
 add-requires c =

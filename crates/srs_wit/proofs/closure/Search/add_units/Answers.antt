@@ -7,7 +7,7 @@ within-requires c =
     let s = c.args.self.now in
     let t = c.add.new.self in
     let u = c.add-2.new.self in
-    let few = few_units s.found.keys t.found.keys u.found.keys s.origin t.origin u.origin s.waiting.items t.waiting.items u.waiting.items c.requires.found c.requires.origin c.requires.waiting
+    let few = few_units s.found t.found u.found s.origin t.origin u.origin s.waiting.items t.waiting.items u.waiting.items c.requires.found c.requires.origin c.requires.waiting
     c.in-Ok.ensures c.in-Ok-add.ensures in
     omega (arith, few)
 
@@ -16,7 +16,7 @@ returns-clause-found c R =
     let s = c.args.self.now in
     let t = c.add.new.self in
     let u = c.add-2.new.self in
-    on_ok c.within.result _ (units_2 s.found.keys t.found.keys u.found.keys s.origin t.origin u.origin s.waiting.items t.waiting.items u.waiting.items c.requires.found c.requires.origin c.requires.waiting
+    on_ok c.within.result _ (units_2 s.found t.found u.found s.origin t.origin u.origin s.waiting.items t.waiting.items u.waiting.items c.requires.found c.requires.origin c.requires.waiting
     c.in-Ok.ensures c.in-Ok-add.ensures R)
 
 pub returns-clause-units : goal.returns-clause-units
@@ -24,7 +24,7 @@ returns-clause-units c =
     let s = c.args.self.now in
     let t = c.add.new.self in
     let u = c.add-2.new.self in
-    on_ok c.within.result _ (has_units s.found.keys t.found.keys u.found.keys s.origin t.origin u.origin s.waiting.items t.waiting.items u.waiting.items c.requires.found c.requires.origin c.requires.waiting
+    on_ok c.within.result _ (has_units s.found t.found u.found s.origin t.origin u.origin s.waiting.items t.waiting.items u.waiting.items c.requires.found c.requires.origin c.requires.waiting
     c.in-Ok.ensures c.in-Ok-add.ensures)
 
 pub returns-clause-stop : goal.returns-clause-stop
@@ -32,5 +32,5 @@ returns-clause-stop c R =
     let s = c.args.self.now in
     let t = c.add.new.self in
     let u = c.add-2.new.self in
-    c.within.ensures.stop R (units_2 s.found.keys t.found.keys u.found.keys s.origin t.origin u.origin s.waiting.items t.waiting.items u.waiting.items c.requires.found c.requires.origin c.requires.waiting
+    c.within.ensures.stop R (units_2 s.found t.found u.found s.origin t.origin u.origin s.waiting.items t.waiting.items u.waiting.items c.requires.found c.requires.origin c.requires.waiting
     c.in-Ok.ensures c.in-Ok-add.ensures R).half

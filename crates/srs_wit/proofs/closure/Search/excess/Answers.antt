@@ -7,7 +7,7 @@ use Rattle.srs_wit.proofs.closure.Search.excess.Goals as goal
 
 pub returns : goal.returns
 returns c R h =
-    let keys = c.args.self.now.found.keys in
+    let keys = c.args.self.now.found in
     let met = c.args.self.now.origin in
     c.too_many.ensures R (shown_along (AreTooMany R c.args.bound) (take (c.args.bound + 1) (with_opposites keys met)) c.first.result c.first.ensures
     (shows_many R keys met h c.args.bound c.requires.many))

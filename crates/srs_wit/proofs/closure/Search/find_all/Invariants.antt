@@ -3,8 +3,8 @@ use Rattle.srs_wit.proofs.Closing.{Closing}
 use Rattle.srs_wit.proofs.closure.Search.find_all.Given as goal
 
 abbrev pub invariant-loop-w : goal.invariant-loop-w
-invariant-loop-w l = Closing l.cell l.bound l.self.found.keys l.self.origin l.self.waiting.items
+invariant-loop-w l = Closing l.cell l.bound l.self.found l.self.origin l.self.waiting.items
 
 -- the pairs that may still be found, and those that wait
 abbrev pub decreases-loop-w : goal.decreases-loop-w
-decreases-loop-w l = (l.bound + length l.self.waiting.items) - length l.self.found.keys
+decreases-loop-w l = (l.bound + length l.self.waiting.items) - length l.self.found

@@ -7,7 +7,7 @@ use Rattle.srs_wit.proofs.closure.Search.first.Goals as goal
 
 pub slice_bounds-from_slice-end : goal.slice_bounds-from_slice-end
 slice_bounds-from_slice-end c =
-    let keys = c.args.self.now.found.keys in
+    let keys = c.args.self.now.found in
     let met = c.args.self.now.origin in
-    let e : c.deref.result.now ≡ with_opposites keys met = c.deref.ensures.value ∙ c.in_ok-all.ensures ∙ ap (λ (x : List V2). with_opposites x met) c.as_slice.ensures.keys in
+    let e : c.deref.result.now ≡ with_opposites keys met = c.deref.ensures.value ∙ c.in_ok-all.ensures ∙ ap (λ (x : List V2). with_opposites x met) c.as_slice.ensures in
     sym (length-take-le c.args.n c.deref.result.now (subst (λ (x : List V2). c.args.n ≤ length x) (sym e) (subst (λ (k : ℕ). c.args.n ≤ k) (sym (length-both keys met)) c.requires.few)))

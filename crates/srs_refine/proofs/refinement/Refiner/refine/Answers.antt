@@ -2,7 +2,7 @@ use Rattle.std.proofs.Common.{sym, subst, ◌∙◌}
 use Rattle.srs_plane.specs.Regions.{Area}
 use Rattle.srs_path.specs.Soundness.{IsSound}
 use Rattle.srs_path.proofs.RefinesSound.{refines_sound}
-use Rattle.srs_refine.proofs.refinement.refine.Goals as goal
+use Rattle.srs_refine.proofs.refinement.Refiner.refine.Goals as goal
 
 pub found-requires : goal.found-requires
 found-requires c =
