@@ -14,7 +14,7 @@ use Rattle.srs_plane.specs.declared.halves.Kind.TheVariants.{Ge, Gt}
 use Rattle.srs_plane.specs.Regions.{Area, Asks, IsInHalf}
 use Rattle.srs_cell.specs.Hull.{IsInHalves, IsAbove}
 use Rattle.srs_cell.specs.Corners.{boxed, IsCell}
-use Rattle.srs_cell.specs.Bounds.{IsInfimum, IsSupremum, Takes, IsLow, IsHigh, IsBoundSized, IsLeastCorner, IsLeastSum}
+use Rattle.srs_cell.specs.Bounds.{IsInfimum, IsSupremum, Takes, IsLow, IsHigh, IsBoundSized, AreShort, IsLeastCorner, IsLeastSum}
 use Rattle.srs_cell.specs.declared.bounds.Bound.{Bound}
 use Rattle.srs_cell.proofs.Areas.{boxed_halves, in_boxed}
 use Rattle.srs_cell.proofs.Least.{sized_among}
@@ -208,6 +208,25 @@ value_within f z h k =
     let y = within_product f.b z.q (2 ^ 38) (2 ^ 77) h.b_range k.q_range in
     let w = within_product f.c z.d (2 ^ 38) (2 ^ 77) h.c_range k.d_range in
     within_more (f.a *ℤ z.p +ℤ f.b *ℤ z.q +ℤ f.c *ℤ z.d) (m + m + m) (2 ^ 117) (within_sum (f.a *ℤ z.p +ℤ f.b *ℤ z.q) (f.c *ℤ z.d) (m + m) m (within_sum (f.a *ℤ z.p) (f.b *ℤ z.q) m m x y) w) (lit≤ tt)
+
+pub value_short : (f : LinearForm) (z : Point) → IsFormSized f → IsPointWithin (2 ^ 38) z → IsWithin (2 ^ 79) (value f z)
+unfolding value
+value_short f z h k =
+    let m = 2 ^ 38 * 2 ^ 38 in
+    let x = within_product f.a z.p (2 ^ 38) (2 ^ 38) h.a_range k.p_range in
+    let y = within_product f.b z.q (2 ^ 38) (2 ^ 38) h.b_range k.q_range in
+    let w = within_product f.c z.d (2 ^ 38) (2 ^ 38) h.c_range k.d_range in
+    within_more (f.a *ℤ z.p +ℤ f.b *ℤ z.q +ℤ f.c *ℤ z.d) (m + m + m) (2 ^ 79) (within_sum (f.a *ℤ z.p +ℤ f.b *ℤ z.q) (f.c *ℤ z.d) (m + m) m (within_sum (f.a *ℤ z.p) (f.b *ℤ z.q) m m x y) w) (lit≤ tt)
+
+-- the values and the depths at two corners whose numbers are within 2^38
+pub are_short : (f : LinearForm) (c e : Point) (n d m g : ℤ) → IsFormSized f → IsPointWithin (2 ^ 38) c → IsPointWithin (2 ^ 38) e
+    → n ≡ value f c → d ≡ c.d → m ≡ value f e → g ≡ e.d → AreShort n d m g
+are_short f c e n d m g h k l a b t w = record {
+  first_value = rw a (value_short f c h k);
+  first_depth = rw b k.d_range;
+  second_value = rw t (value_short f e h l);
+  second_depth = rw w l.d_range;
+}
 
 pub bound_sized : (n d : ℤ) (b : Bool) (c : Point) → IsWithin (2 ^ 117) n → d ≡ c.d → IsPointWithin (2 ^ 77) c → IsBoundSized (record { num = n; den = d; attained = b })
 bound_sized n d b c h e k = record { num_range = h; den_range = rw e k.d_range }

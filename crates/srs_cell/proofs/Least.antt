@@ -164,3 +164,17 @@ depth_fits d c e sized = rw e (small_fits w128 c.d (2 ^ 77) sized.d_range (lit< 
 
 pub not_up_to : (a b : ℤ) → (a ≤ℤ b → ⊥) → b <ℤ a
 not_up_to a b n = by_lt_z b a (λ h. h) (λ h. absurd (n h))
+
+-- the values and the depths at two corners, by other names
+lt_by : (a b x y : ℤ) → a ≡ x → b ≡ y → a <ℤ b → x <ℤ y
+lt_by a b x y e g h = omega (arith, linear)
+
+module _ (f : LinearForm) (c e : Point) (n d m g : ℤ) (value_c : n ≡ value f c) (depth_c : d ≡ c.d) (value_e : m ≡ value f e) (depth_e : g ≡ e.d) where
+  pub lower_by : (n *ℤ g) <ℤ (m *ℤ d) → IsLower f c e
+  lower_by h = lt_by _ _ _ _ (ap₂ ◌*ℤ◌ value_c depth_e) (ap₂ ◌*ℤ◌ value_e depth_c) h
+
+  pub lower_to : IsLower f c e → (n *ℤ g) <ℤ (m *ℤ d)
+  lower_to h = lt_by _ _ _ _ (sym (ap₂ ◌*ℤ◌ value_c depth_e)) (sym (ap₂ ◌*ℤ◌ value_e depth_c)) h
+
+pub deep_by : (a b : ℤ) → a ≡ b → pos 1 ≤ℤ b → pos 1 ≤ℤ a
+deep_by a b e h = omega (arith, linear)

@@ -17,3 +17,6 @@ pub mod OneSided
 pub mod Lessening
 pub mod FloorsBelow
 pub mod Joining
+pub mod Counting
+pub mod Tightening
+pub mod Parting

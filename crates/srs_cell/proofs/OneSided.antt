@@ -1,16 +1,16 @@
 -- What the bounds of a form tell of the side on which a region is.
-use Rattle.std.proofs.Common.{◌≡◌, ℤ, pos, ◌*ℤ◌, neg_ℤ, ◌≤ℤ◌, ◌<ℤ◌, [], ◌∷◌, Bool, true, false, not, IsTrue, MatchBool, refl, ap, sym, ◌∙◌, arith}
+use Rattle.std.proofs.Common.{◌≡◌, ℤ, pos, ◌*ℤ◌, neg_ℤ, ◌≤ℤ◌, ◌<ℤ◌, [], ◌∷◌, Bool, true, false, not, IsTrue, MatchBool, refl, ap, sym, ◌∙◌, arith, ℕ, ◌≤◌, nat_eq}
 use Rattle.std.specs.Prelude.{◌↔◌}
 use Rattle.std.specs.Int.Signed.{le_z, lt_z}
 use Rattle.std.proofs.lemmas.Int.{ints, by_lt_z}
-use Rattle.std.proofs.lemmas.Bool.{false≢true}
+use Rattle.std.proofs.lemmas.Bool.{false≢true, eqb-true, eqb-false}
 use Rattle.srs_num.specs.Points.{LinearForm, value}
-use Rattle.srs_num.proofs.Linear.{linear, mul_nonneg, mul_pos, nonneg_from, zero_from, mul_zero, mul_one, mul_comm}
+use Rattle.srs_num.proofs.Linear.{linear, mul_nonneg, mul_pos, zero_from, mul_zero, mul_one, mul_comm}
 use Rattle.srs_num.proofs.Ring.{v, ◌⊗◌, minus, ring}
 use Rattle.srs_plane.specs.Regions.{Area}
 use Rattle.srs_cell.specs.declared.bounds.Bound.{Bound}
-use Rattle.srs_cell.specs.Bounds.{IsLow, IsHigh}
-use Rattle.srs_cell.specs.Sides.{StaysAbove, StaysBelow, ReachesAbove, ReachesBelow}
+use Rattle.srs_cell.specs.Bounds.{IsHigh}
+use Rattle.srs_cell.specs.Sides.{StaysBelow, ReachesAbove}
 
 -- what a test of two numbers tells
 pub by_le : {P Q : Type 0} (a b : ℤ) → (a ≤ℤ b → P) → (b <ℤ a → Q) → MatchBool (le_z a b) P Q
@@ -31,28 +31,15 @@ pub by_not : {P Q : Type 0} (b : Bool) → (b ≡ false → P) → (b ≡ true �
 by_not true f g = g refl
 by_not false f g = f refl
 
--- ---- the infimum
-pub above_from_low : (R : Area) (f : LinearForm) (b : Bound) → IsLow R f b → pos 0 ≤ℤ b.num → StaysAbove R f
-above_from_low R f b low h z i =
-    nonneg_from b.den (value f z) (above _ low.positive)
-    (between _ _ (mul_nonneg b.num z.d h (not_below _ i.is_point)) (low.infimum.bound z i))
+pub by_zero : {P Q : Type 0} (n : ℕ) → (n ≡ 0 → P) → (1 ≤ n → Q) → MatchBool (nat_eq n 0) P Q
+by_zero {P} {Q} n f g = by (nat_eq n 0) refl
   where
-    above : (a : ℤ) → pos 1 ≤ℤ a → pos 0 <ℤ a
-    above a h = omega (arith, linear)
+    least : (n : ℕ) → (n ≡ 0 → ⊥) → 1 ≤ n
+    least n h = omega (arith, h)
 
-    not_below : (a : ℤ) → pos 1 ≤ℤ a → pos 0 ≤ℤ a
-    not_below a h = omega (arith, linear)
-
-    between : (x y : ℤ) → pos 0 ≤ℤ x → x ≤ℤ y → pos 0 ≤ℤ y
-    between x y h k = omega (arith, linear)
-
-pub below_from_low : (R : Area) (f : LinearForm) (b : Bound) → IsLow R f b → b.num <ℤ pos 0 → ReachesBelow R f
-below_from_low R f b low h =
-    let p = low.infimum.greatest (pos 0) (pos 1) (omega (arith, linear)) (start _ _ _ _ (mul_comm b.num (pos 1) ∙ mul_one b.num) (mul_zero b.den) h) in
-    (p.0, p.1, start _ _ _ _ (sym (mul_one (value f p.0))) (sym (mul_zero p.0.d)) p.2)
-  where
-    start : (a b c d : ℤ) → a ≡ b → c ≡ d → b <ℤ d → a <ℤ c
-    start a b c d e g h = omega (arith, linear)
+    by : (t : Bool) → nat_eq n 0 ≡ t → MatchBool t P Q
+    by true e = f (eqb-true n 0 e)
+    by false e = g (least n (eqb-false n 0 e))
 
 -- ---- the supremum
 pub below_from_high : (R : Area) (f : LinearForm) (b : Bound) → IsHigh R f b → b.num <ℤ pos 0 → StaysBelow R f

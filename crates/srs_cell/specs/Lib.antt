@@ -8,3 +8,4 @@ pub mod Sides
 pub mod Parts
 pub mod Floors
 pub mod Doubles
+pub mod Tallies

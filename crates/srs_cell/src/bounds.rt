@@ -2,11 +2,13 @@
 ghost use Rattle.std.specs.Prelude.{◌≡◌, ◌≤◌, ◌^◌, ◌↔◌, IsTrue, All, Contains, MatchOption, length, pos, ◌*ℤ◌, ◌≤ℤ◌, ◌<ℤ◌};
 ghost use Rattle.srs_num.specs.Points.{Point, value, IsNear, IsWithin, IsPointWithin};
 ghost use Rattle.srs_plane.specs.Regions.{IsIn};
-ghost use Rattle.srs_cell.specs.Bounds.{IsInfimum, IsLow, IsHigh, IsBoundSized, IsLower, IsLeastCorner, IsLeastSum, Takes};
+ghost use Rattle.srs_cell.specs.Bounds.{IsInfimum, IsLow, IsHigh, IsBoundSized, AreShort, IsLeastCorner, IsLeastSum, Takes};
 ghost use Rattle.srs_cell.specs.Floors.{IsLeastFloor};
 
 use crate::Cell;
 use crate::cells::is_inside;
+use crate::floors::CornerList;
+use crate::values::value_of;
 use srs_num::{Corner, Form, is_less_quotient};
 
 // The most in magnitude of two numbers whose product 128 bits hold.
@@ -109,7 +111,16 @@ fn is_up_to(form: &Form, corner: &Corner, most: i64) -> bool
 }
 
 // The first of the corners at which the form isn't above the whole number.
-fn first_taking(form: &Form, corners: &[Corner], most: i64) -> Option<Corner>
+fn first_taking(form: &Form, corners: &CornerList, most: i64) -> Option<Corner>
+    requires sized { All (IsPointWithin (2 ^ 77)) corners.now }
+    requires most { IsWithin (2 ^ 40) most }
+    ensures { MatchOption result (All (λ c. (most *ℤ c.d) <ℤ value form.now c) corners.now) (λ c. Contains corners.now c × (value form.now c ≤ℤ (most *ℤ c.d))) }
+{
+    first_of(form, corners.as_slice(), most)
+}
+
+// The same, of a slice.
+fn first_of(form: &Form, corners: &[Corner], most: i64) -> Option<Corner>
     requires sized { All (IsPointWithin (2 ^ 77)) corners.now }
     requires most { IsWithin (2 ^ 40) most }
     ensures { MatchOption result (All (λ c. (most *ℤ c.d) <ℤ value form.now c) corners.now) (λ c. Contains corners.now c × (value form.now c ≤ℤ (most *ℤ c.d))) }
@@ -122,26 +133,30 @@ fn first_taking(form: &Form, corners: &[Corner], most: i64) -> Option<Corner>
     None
 }
 
-// Whether the form is less at the corner than at the other one.
-fn is_lower(form: &Form, corner: &Corner, other: &Corner) -> bool
-    ensures { IsTrue result ↔ IsLower form.now corner.now other.now }
-{
-    let (_, _, d) = corner.parts();
-    let (_, _, e) = other.parts();
-    is_less(form.at_corner(corner), d, form.at_corner(other), e)
-}
-
-// Whether n / d is less than m / e: by products where 128 bits hold them.
+// Whether n / d is less than m / e: by products where 128 bits hold them, as they do where `short` is set.
 #[inline(always)]
-fn is_less(n: i128, d: i128, m: i128, e: i128) -> bool
+fn is_less(n: i128, d: i128, m: i128, e: i128, short: bool) -> bool
     requires d { pos 1 ≤ℤ d }
     requires e { pos 1 ≤ℤ e }
+    requires short { IsTrue short → AreShort n d m e }
     ensures { IsTrue result ↔ (n *ℤ e) <ℤ (m *ℤ d) }
 {
+    if short {
+        return is_less_short(n, d, m, e);
+    }
     if are_half(n, d, m, e) {
         return is_less_product(n, d, m, e);
     }
     is_less_quotient(n, d, m, e)
+}
+
+// Whether n * e is less than m * d, for values and depths of corners whose numbers are within 2^38.
+#[inline(always)]
+fn is_less_short(n: i128, d: i128, m: i128, e: i128) -> bool
+    requires { AreShort n d m e }
+    ensures { IsTrue result ↔ (n *ℤ e) <ℤ (m *ℤ d) }
+{
+    n * e < m * d
 }
 
 // Whether all four numbers are at most 2^62 in magnitude, so that 128 bits hold their products.
@@ -175,16 +190,34 @@ fn value_at(form: &Form, corner: &Corner) -> i128
 }
 
 // The first of the corners at which the form is least.
-fn least_corner(form: &Form, corners: &[Corner]) -> Corner
+fn least_corner(form: &Form, corners: &CornerList) -> Corner
     requires some { 1 ≤ length corners.now }
     requires sized { All (IsPointWithin (2 ^ 77)) corners.now }
     ensures { IsLeastCorner form.now corners.now result }
 {
+    least_of(form, corners.as_slice(), corners.is_short())
+}
+
+// The same, of a slice.
+fn least_of(form: &Form, corners: &[Corner], short: bool) -> Corner
+    requires some { 1 ≤ length corners.now }
+    requires sized { All (IsPointWithin (2 ^ 77)) corners.now }
+    requires short { IsTrue short → All (IsPointWithin (2 ^ 38)) corners.now }
+    ensures { IsLeastCorner form.now corners.now result }
+{
+    // The numbers of a form are at most 2^38 in magnitude.
+    let _ = form.parts();
     let mut least = corners[0];
+    let mut num = value_of(form, &least, short);
+    let mut den = depth(&least);
     for i in 1..corners.len() {
-        let corner = &corners[i];
-        if is_lower(form, corner, &least) {
-            least = *corner;
+        let corner = corners[i];
+        let value = value_of(form, &corner, short);
+        let depth = depth(&corner);
+        if is_less(value, depth, num, den, short) {
+            least = corner;
+            num = value;
+            den = depth;
         }
     }
     least
@@ -192,15 +225,36 @@ fn least_corner(form: &Form, corners: &[Corner]) -> Corner
 
 // The numbers of the corners at which the form is least added up: a point strictly within each half in which one of
 // them is. The one at `least` counts twice, which does no harm.
-fn least_sum(form: &Form, corners: &[Corner], least: &Corner) -> Corner
+fn least_sum(form: &Form, corners: &CornerList, least: &Corner) -> Corner
     requires few { length corners.now ≤ 84 }
     requires sized { All (IsPointWithin (2 ^ 77)) corners.now }
     requires least { IsLeastCorner form.now corners.now least.now }
     ensures { IsLeastSum form.now corners.now corners.now least.now result }
 {
+    sum_at(form, corners.as_slice(), corners.is_short(), least)
+}
+
+// The same, of a slice.
+fn sum_at(form: &Form, corners: &[Corner], short: bool, least: &Corner) -> Corner
+    requires few { length corners.now ≤ 84 }
+    requires sized { All (IsPointWithin (2 ^ 77)) corners.now }
+    requires short { IsTrue short → All (IsPointWithin (2 ^ 38)) corners.now }
+    requires least { IsLeastCorner form.now corners.now least.now }
+    ensures { IsLeastSum form.now corners.now corners.now least.now result }
+{
+    // The numbers of a form are at most 2^38 in magnitude.
+    let _ = form.parts();
+    let num = form.at_corner(least);
+    let den = depth(least);
     let mut total = *least;
     for corner in corners {
-        if !is_lower(form, least, corner) {
+        if !is_less(
+            num,
+            den,
+            value_of(form, corner, short),
+            depth(corner),
+            short,
+        ) {
             total = total.plus(corner);
         }
     }

@@ -8,32 +8,31 @@ ghost use Rattle.srs_cell.specs.Corners.{boxed, AreCorners, IsCell};
 ghost use Rattle.srs_cell.specs.Cutting.{IsSection};
 ghost use Rattle.srs_cell.specs.Floors.{form_of, AreLeastFloors};
 
-use crate::corners::{corners_of, corners_with};
-use crate::ends::Section;
+use crate::corners::corners_of;
 use crate::floors::{CornerList, Floors};
 use srs_num::{Corner, Form, NoMemory, V2, sum};
-use srs_plane::{Half, Kind, Region};
+use srs_plane::Region;
 use std::alloc::Global;
 use std::marker::Model;
 
 /// A region that has a point, with the corners of its halves, where open edges count as closed: 1 to 84 of them.
 #[derive(Drop)]
 pub struct Cell {
-    region: Region,
-    corners: CornerList,
-    sample: Corner,
+    pub(crate) region: Region,
+    pub(crate) corners: CornerList,
 }
 
 impl Model for Cell {
     ghost use Rattle.std.specs.Prelude.{List};
     ghost use Rattle.srs_plane.specs.declared.halves.Half.{Half};
+    ghost use Rattle.srs_num.specs.Points.{Point};
     ghost use Rattle.srs_cell.specs.Corners.{IsCell};
 
     ghost Value = { List Half };
 
     ghost view = { λ s. s.region };
 
-    ghost invariant = { λ s. IsCell s.region s.corners s.sample };
+    ghost invariant = { λ s. (sample : Point) × IsCell s.region s.corners sample };
 }
 
 impl Cell {
@@ -56,11 +55,12 @@ impl Cell {
         &self.region
     }
 
-    /// A point of the cell.
+    /// A point of the cell: it adds up the corners.
+    // Where some point is strictly inside an open edge, so is the sum of all corners.
     pub fn sample(&self) -> Corner
         ensures { IsIn self.now result }
     {
-        self.sample
+        sum(self.corners.as_slice())
     }
 
     /// An equal cell. An `Err` is want of memory.
@@ -70,51 +70,14 @@ impl Cell {
         Ok(Cell {
             region: self.region.copy(alloc)?,
             corners: self.corners.copy(alloc)?,
-            sample: self.sample,
         })
     }
 
-    // The line within the region.
-    pub(crate) fn section(&self, line: &Form) -> Section
-        ensures line { result.line ≡ line.now }
-        ensures section { IsSection (boxed self.now) result }
-    {
-        Section::of(&self.region, self.region.len(), line)
-    }
-
-    // The cell with the half appended, whose section this is, from the corners of this one. `None` exactly where it has no
-    // point.
-    pub(crate) fn part(
-        &self,
-        alloc: Global,
-        half: Half,
-        section: &Section,
-    ) -> Result<Option<Cell>, NoMemory>
-        requires few { length self.now < 80 }
-        requires line { section.now.line ≡ half.form }
-        requires section { IsSection (boxed self.now) section.now }
-        ensures part { IfOk result (λ found. MatchOption found (HasPoint (self.now ++ half ∷ []) → ⊥) (λ cell. cell ≡ self.now ++ half ∷ [])) }
-        ensures point { IfOk result (λ found. IsSome found → HasPoint (self.now ++ half ∷ [])) }
-    {
-        let Some(corners) = corners_with(
-            alloc,
-            &self.region,
-            self.corners.as_slice(),
-            &half,
-            section,
-        )?
-        else {
-            return Ok(None);
-        };
-        let region = self.region.with(alloc, half)?;
-        Ok(inhabited(region, corners))
-    }
-
     // The corners, at most 84 of them.
-    pub(crate) fn corners(&self) -> &[Corner]
+    pub(crate) fn corners(&self) -> &CornerList
         ensures { (sample : Point) × IsCell self.now result.now sample }
     {
-        self.corners.as_slice()
+        &self.corners
     }
 
     // The least floors of the value of a pair, and of the value negated, at the cell's points.
@@ -128,7 +91,7 @@ impl Cell {
 }
 
 // The cell of the region, whose corners these are. `None` exactly where it has no point.
-fn inhabited(region: Region, corners: Vec<Corner>) -> Option<Cell>
+pub(crate) fn inhabited(region: Region, corners: Vec<Corner>) -> Option<Cell>
     requires { AreCorners region corners.items }
     ensures cell { MatchOption result (HasPoint region → ⊥) (λ cell. cell ≡ region) }
     ensures point { IsSome result → HasPoint region }
@@ -142,20 +105,8 @@ fn inhabited(region: Region, corners: Vec<Corner>) -> Option<Cell>
     }
     Some(Cell {
         region,
-        sample,
         corners: CornerList::new(corners),
     })
-}
-
-// Whether the corner is in the half, where it is in it with its edge.
-fn is_in_half(half: &Half, corner: &Corner) -> bool
-    requires { pos 0 ≤ℤ value half.now.form corner.now }
-    ensures { IsTrue result ↔ IsInHalf half.now corner.now }
-{
-    match half.kind {
-        Kind::Ge => true,
-        Kind::Gt => half.form.at_corner(corner) > 0,
-    }
 }
 
 // Whether the corner, which is in the halves with their edges, is in each half of the region: it looks at the open edges
@@ -164,10 +115,5 @@ pub(crate) fn is_inside(region: &Region, corner: &Corner) -> bool
     requires { IsInHalves (boxed region.now) corner.now }
     ensures { IsTrue result ↔ All (λ h. IsInHalf h corner.now) region.now }
 {
-    for i in 0..region.len() {
-        if !is_in_half(&region.half(i), corner) {
-            return false;
-        }
-    }
-    true
+    region.has_corner(corner)
 }

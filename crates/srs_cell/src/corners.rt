@@ -1,15 +1,20 @@
 // Cutting the corners of a region by a form.
 ghost use Rattle.std.specs.Prelude.{◌≡◌, ◌≤◌, ◌^◌, ◌↔◌, ◌+◌, ◌∷◌, ◌++◌, [], IsTrue, IfOk, MatchOption, All, length, take};
 ghost use Rattle.srs_num.specs.Points.{Point, IsNear, IsPointWithin};
+ghost use Rattle.srs_plane.specs.declared.halves.Half.{Half};
 ghost use Rattle.srs_plane.specs.Regions.{IsIn};
 ghost use Rattle.srs_cell.specs.Hull.{IsInHalves, IsAbove, IsBelow, IsHull};
 ghost use Rattle.srs_cell.specs.Corners.{box, boxed, AreCorners};
 ghost use Rattle.srs_cell.specs.Cutting.{IsKept, IsLeft, IsSection};
+ghost use Rattle.srs_cell.specs.Tallies.{IsTally};
 
 use crate::doubles::{add_corner, join_corner};
 use crate::ends::{Section, side};
+use crate::floors::CornerList;
+use crate::tallies::Tally;
+use crate::values::value_of;
 use srs_num::{Corner, Form, NoMemory, crossing_of};
-use srs_plane::{Half, Region};
+use srs_plane::Region;
 use std::alloc::Global;
 
 // What a form leaves of some corners.
@@ -47,15 +52,22 @@ fn all_below(corners: &[Corner], line: &Form) -> bool
     true
 }
 
-// The corners at which the line's form is at least 0. There is room for those of a part: where a corner is lost, two come.
-fn keep_above(alloc: Global, corners: &[Corner], line: &Form) -> Result<Vec<Corner>, NoMemory>
+// The corners at which the line's form is at least 0, with room for so many.
+pub(crate) fn keep_above(
+    alloc: Global,
+    corners: &[Corner],
+    short: bool,
+    line: &Form,
+    room: usize,
+) -> Result<Vec<Corner>, NoMemory>
+    requires short { IsTrue short → All (IsPointWithin (2 ^ 38)) corners.now }
     ensures { IfOk result (λ kept. IsKept line.now corners.now kept.items) }
 {
-    let Ok(mut kept) = Vec::with_capacity(alloc, corners.len() + 1) else {
+    let Ok(mut kept) = Vec::with_capacity(alloc, room) else {
         return Err(NoMemory);
     };
     for corner in corners {
-        if line.at_corner(corner) >= 0 {
+        if value_of(line, corner, short) >= 0 {
             add_corner(&mut kept, *corner)?;
         }
     }
@@ -86,15 +98,15 @@ pub(crate) fn clip_corners(
     if all_below(corners, &section.line) {
         return Ok(Remains::Nothing);
     }
-    let mut part = keep_above(alloc, corners, &section.line)?;
+    let mut part = keep_above(alloc, corners, false, &section.line, corners.len())?;
     let Some(first) = section.first else {
         unreachable!()
     };
     let Some(second) = section.second else {
         unreachable!()
     };
-    join_corner(&mut part, first)?;
-    join_corner(&mut part, second)?;
+    join_corner(&mut part, &section.line, first, true)?;
+    join_corner(&mut part, &section.line, second, true)?;
     Ok(Remains::Part(part))
 }
 
@@ -146,24 +158,40 @@ pub(crate) fn corners_of(alloc: Global, region: &Region) -> Result<Option<Vec<Co
     Ok(Some(corners))
 }
 
-// The corners of the region with the half appended, from those of the region. `None`: all of these are beyond the half.
-pub(crate) fn corners_with(
+// The corners of the region with a half of the section's line appended, from those of the region, where some of these are
+// in that half.
+pub(crate) fn part_corners(
     alloc: Global,
     region: &Region,
-    corners: &[Corner],
-    half: &Half,
+    corners: &CornerList,
     section: &Section,
-) -> Result<Option<Vec<Corner>>, NoMemory>
+    tally: Tally,
+) -> Result<Vec<Corner>, NoMemory>
+    requires few { length region.now ≤ 80 }
     requires corners { AreCorners region.now corners.now }
-    requires line { section.now.line ≡ half.now.form }
     requires section { IsSection (boxed region.now) section.now }
-    ensures { IfOk result
-        (λ found. MatchOption found (IsBelow half.now.form corners.now) (λ more. AreCorners (region.now ++ half.now ∷ []) more.items)) }
+    requires tally { IsTally section.now.line corners.now tally }
+    requires some { 1 ≤ tally.above + tally.on }
+    ensures { IfOk result (λ part. (h : Half) → h.form ≡ section.now.line → AreCorners (region.now ++ h ∷ []) part.items) }
 {
-    let _half = half;
-    match clip_corners(alloc, region, region.len(), corners, section)? {
-        Remains::Whole => Ok(Some(copied(alloc, corners)?)),
-        Remains::Nothing => Ok(None),
-        Remains::Part(part) => Ok(Some(part)),
+    // The clauses alone speak of the halves: the section has their ends.
+    let _region = region;
+    if tally.below == 0 {
+        let copy = copied(alloc, corners.as_slice())?;
+        return Ok(copy);
     }
+    // A corner on the line is one of the two ends.
+    let room = tally.above + tally.on.max(2);
+    let short = corners.is_short();
+    let mut part = keep_above(alloc, corners.as_slice(), short, &section.line, room)?;
+    let Some(first) = section.first else {
+        unreachable!()
+    };
+    let Some(second) = section.second else {
+        unreachable!()
+    };
+    let may_double = tally.may_double();
+    join_corner(&mut part, &section.line, first, may_double)?;
+    join_corner(&mut part, &section.line, second, may_double)?;
+    Ok(part)
 }

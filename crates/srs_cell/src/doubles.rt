@@ -3,7 +3,7 @@ ghost use Rattle.std.specs.Prelude.{◌≡◌, ◌↔◌, ◌++◌, [], ◌∷�
 ghost use Rattle.srs_cell.specs.Doubles.{IsSamePoint, HasDouble, IsJoined};
 
 use crate::bounds::{are_half, is_less_product};
-use srs_num::{Corner, NoMemory};
+use srs_num::{Corner, Form, NoMemory};
 
 // Whether n / d and m / e are seen to be the same number: they are, for numbers whose products 128 bits hold.
 fn is_same(n: i128, d: i128, m: i128, e: i128) -> bool
@@ -24,12 +24,12 @@ fn is_same_point(corner: &Corner, other: &Corner) -> bool
     is_same(p, d, r, e) && is_same(q, d, s, e)
 }
 
-// Whether one of the corners is seen to be the same point as the other one.
-fn has_double(corners: &[Corner], other: &Corner) -> bool
+// Whether one of the corners is seen to be the same point as the other one, which is on the line.
+fn has_double(corners: &[Corner], line: &Form, other: &Corner) -> bool
     ensures { IsTrue result → HasDouble corners.now other.now }
 {
     for corner in corners {
-        if is_same_point(corner, other) {
+        if line.at_corner(corner) == 0 && is_same_point(corner, other) {
             return true;
         }
     }
@@ -46,11 +46,17 @@ pub(crate) fn add_corner(corners: &mut Vec<Corner>, corner: Corner) -> Result<()
     }
 }
 
-// Appends the corner, unless one of the corners is seen to be the same point.
-pub(crate) fn join_corner(corners: &mut Vec<Corner>, corner: Corner) -> Result<(), NoMemory>
+// Appends the corner of the line, unless one of the corners is seen to be the same point. It looks for that where
+// `may_double` is set.
+pub(crate) fn join_corner(
+    corners: &mut Vec<Corner>,
+    line: &Form,
+    corner: Corner,
+    may_double: bool,
+) -> Result<(), NoMemory>
     ensures { OnOk result (IsJoined corners.old.items corner corners.new.items) }
 {
-    if has_double(corners, &corner) {
+    if may_double && has_double(corners, line, &corner) {
         return Ok(());
     }
     add_corner(corners, corner)

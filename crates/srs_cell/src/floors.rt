@@ -2,12 +2,14 @@
 ghost use Rattle.std.specs.Prelude.{◌≡◌, ◌≤◌, ◌^◌, IsTrue, IfOk, All, length};
 ghost use Rattle.srs_num.specs.Points.{value, IsNear, IsWithin, IsPointWithin};
 ghost use Rattle.srs_map.specs.Step.{IsNarrow};
+ghost use Rattle.srs_cell.specs.Tallies.{IsTally};
 ghost use Rattle.srs_cell.specs.Floors.{form_of, AreFloorsBelow, IsRatioWithin, AreFloorsOf, IsLesserFloor, IsLesser, AreLessened};
 
 use crate::bounds::depth;
 use crate::corners::copied;
 use crate::moves::step_form;
-use srs_num::{Corner, NoMemory, V2, floor_div};
+use crate::tallies::{Tally, tally_of};
+use srs_num::{Corner, Form, NoMemory, V2, floor_div};
 use std::alloc::Global;
 use std::marker::Model;
 
@@ -204,6 +206,20 @@ impl CornerList {
         ensures { result.now ≡ self.now }
     {
         &self.items
+    }
+
+    // Where this is set, the numbers of all of them are within 2^38.
+    pub(crate) fn is_short(&self) -> bool
+        ensures { IsTrue result → All (IsPointWithin (2 ^ 38)) self.now }
+    {
+        self.short
+    }
+
+    // How many of them are on each side of the line.
+    pub(crate) fn tally(&self, line: &Form) -> Tally
+        ensures { IsTally line.now self.now result }
+    {
+        tally_of(&self.items, self.short, line)
     }
 
     // The same corners, in memory of their own.

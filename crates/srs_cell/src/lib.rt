@@ -12,6 +12,8 @@ mod moves;
 mod sharing;
 mod sides;
 mod spans;
+mod tallies;
+mod values;
 
 pub use bounds::{Bound, Quotient};
 pub use cells::Cell;

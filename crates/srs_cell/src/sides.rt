@@ -6,15 +6,30 @@ ghost use Rattle.srs_cell.specs.Sides.{StaysAbove, StaysBelow, ReachesAbove, Rea
 use crate::Cell;
 use srs_num::Form;
 
-/// Whether the form is at least 0 at each point of the cell. It costs what `Cell::low` does.
+/// Whether the form is at least 0 at each point of the cell. It goes over the corners once.
 pub fn is_above(cell: &Cell, form: &Form) -> bool
     ensures { MatchBool result (StaysAbove cell.now form.now) (ReachesBelow cell.now form.now) }
 {
-    cell.low(form).num >= 0
+    cell.corners.tally(form).below == 0
 }
 
-/// Whether the form is below 0 at each point of the cell. It costs what `Cell::high` does.
+/// Whether the form is below 0 at each point of the cell. It goes over the corners once; where the greatest value at a
+/// corner is 0, it costs what `Cell::high` does.
 pub fn is_below(cell: &Cell, form: &Form) -> bool
+    ensures { MatchBool result (StaysBelow cell.now form.now) (ReachesAbove cell.now form.now) }
+{
+    let tally = cell.corners.tally(form);
+    if tally.above > 0 {
+        return false;
+    }
+    if tally.on == 0 {
+        return true;
+    }
+    is_below_by_bound(cell, form)
+}
+
+// The same, by the supremum.
+fn is_below_by_bound(cell: &Cell, form: &Form) -> bool
     ensures { MatchBool result (StaysBelow cell.now form.now) (ReachesAbove cell.now form.now) }
 {
     let high = cell.high(form);

@@ -3,3 +3,4 @@ pub mod Bounded
 pub mod Polygons
 pub mod Placed
 pub mod Convexity
+pub mod Chains

@@ -1,12 +1,14 @@
 //! Halves of the parameter plane, regions, and convex polygons.
 #![tactic(auto)]
 
+mod chains;
 mod halves;
 mod laws;
 mod polygons;
 mod regions;
 mod vertices;
 
+pub use chains::Halves;
 pub use halves::{Half, Kind};
 pub use laws::convexity;
 pub use polygons::{PolyErr, Vertex, polygon};

@@ -8,7 +8,7 @@ ghost use Rattle.srs_plane.specs.Placed.{IsPlaced};
 ghost use Rattle.srs_plane.specs.Regions.{HasPoint};
 
 use crate::{Half, Kind, Region};
-use srs_num::{Form, Pt};
+use srs_num::{Form, NoMemory, Pt};
 use std::alloc::Global;
 use thiserror::Error;
 
@@ -62,8 +62,21 @@ pub fn polygon(alloc: Global, vs: &[Vertex]) -> Result<Region, PolyErr>
     check_denominators(vs)?;
     check_distances(vs)?;
     check_turns(vs)?;
+    let region = region_inside(alloc, vs)?;
+    Ok(region)
+}
+
+// The region of the polygon. An `Err` is want of memory.
+fn region_inside(alloc: Global, vs: &[Vertex]) -> Result<Region, PolyErr>
+    requires { IsPolygon vs.now }
+    ensures ok { IfOk result (λ region. region ≡ region_of vs.now) }
+    ensures err { IfErr result (λ e. IsPolygonErr vs.now e) }
+{
     let halves = sides(alloc, vs)?;
-    Ok(Region::of(halves))
+    match Region::of(alloc, halves) {
+        Ok(region) => Ok(region),
+        Err(NoMemory) => Err(PolyErr::NoMemory),
+    }
 }
 
 // 3 to 16 vertices.

@@ -1,41 +1,53 @@
 // Regions: lists of halves.
-ghost use Rattle.std.specs.Prelude.{◌≡◌, ◌+◌, ◌<◌, ◌≤◌, ◌↔◌, [], ◌∷◌, ◌++◌, length, slice_get, Some, IsTrue, IfOk};
+ghost use Rattle.std.specs.Prelude.{◌≡◌, ◌+◌, ◌<◌, ◌≤◌, ◌↔◌, [], ◌∷◌, ◌++◌, length, slice_get, Some, IsTrue, IfOk, pos, ◌≤ℤ◌};
 ghost use Rattle.std.specs.List.{AllByRecursion};
-ghost use Rattle.srs_num.specs.Points.{Point, IsNear};
+ghost use Rattle.srs_num.specs.Points.{Point, IsNear, value};
 ghost use Rattle.srs_plane.specs.Regions.{IsIn, IsInHalf};
 ghost use Rattle.srs_plane.specs.Bounded.{IsBounded};
+ghost use Rattle.std.specs.Arc.{arc_value};
+ghost use Rattle.srs_plane.specs.Chains.{halves_of};
 
 use crate::Half;
-use srs_num::{NoMemory, Pt, Steps};
+use crate::chains::{Chain, Halves, all_hold, are_same, first, has_corner, longer, nth, owned};
+use srs_num::{Corner, NoMemory, Pt, Steps};
 use std::alloc::Global;
 use std::marker::Model;
+use std::sync::Arc;
 use std::sync::ledger::Ledger;
 
-/// A convex region: the points in all of its 3 to 80 halves. Each has `|x| <= 4` and `|y| <= 4`.
+/// A convex region: the points in all of its 3 to 80 halves. Each has `|x| <= 4` and `|y| <= 4`. It shares its halves
+/// with its copies, and all but the last with the region that it was made from.
 #[derive(Drop)]
 pub struct Region {
-    halves: Vec<Half>,
+    chain: Arc<Chain>,
+    count: u32,
 }
 
 impl Model for Region {
-    ghost use Rattle.std.specs.Prelude.{List};
+    ghost use Rattle.std.specs.Prelude.{List, ◌≡◌, length};
     ghost use Rattle.srs_plane.specs.declared.halves.Half.{Half};
     ghost use Rattle.srs_plane.specs.Bounded.{IsBounded};
+    ghost use Rattle.std.specs.Arc.{arc_value};
+    ghost use Rattle.srs_plane.specs.Chains.{halves_of};
 
     ghost Value = { List Half };
 
-    ghost view = { λ s. s.halves.items };
+    ghost view = { λ s. halves_of (arc_value s.chain) };
 
-    ghost invariant = { λ s. IsBounded s.halves.items };
+    ghost invariant = { λ s. IsBounded (halves_of (arc_value s.chain)) × (s.count ≡ length (halves_of (arc_value s.chain))) };
 }
 
 impl Region {
     /// The region of these halves.
-    pub(crate) fn of(halves: Vec<Half>) -> Region
+    pub(crate) fn of(alloc: Global, halves: Vec<Half>) -> Result<Region, NoMemory>
         requires { IsBounded halves.items }
-        ensures { result ≡ halves.items }
+        ensures { IfOk result (λ region. region ≡ halves.items) }
     {
-        Region { halves }
+        let count = halves.len() as u32;
+        Ok(Region {
+            chain: first(alloc, halves)?,
+            count,
+        })
     }
 
     /// How many halves it has: 3 to 80.
@@ -45,22 +57,29 @@ impl Region {
         ensures high { result ≤ 80 }
         ensures near { (r : Point) → IsIn self.now r → IsNear r }
     {
-        self.halves.len() as u32
+        self.count
     }
 
-    /// The half number `i`, counted from 0.
+    /// The half number `i`, counted from 0. It takes a step for each half that was appended after it.
     pub fn half(&self, i: u32) -> Half
         requires { i < length self.now }
         ensures { slice_get self.now i ≡ Some result }
     {
-        self.halves[i as usize]
+        nth(&self.chain, self.count, i)
+    }
+
+    /// The halves, from the last to the first.
+    pub fn halves(&self) -> Halves<'_>
+        ensures { result ≡ self.now }
+    {
+        Halves::of(&self.chain, self.count)
     }
 
     /// Whether both are the same list of halves.
     pub fn same(&self, other: &Region) -> bool
         ensures { IsTrue result ↔ (self.now ≡ other.now) }
     {
-        self.halves == other.halves
+        self.count == other.count && are_same(&self.chain, &other.chain, self.count)
     }
 
     /// The region with the half appended, for a region of fewer than 80 halves.
@@ -68,21 +87,21 @@ impl Region {
         requires { length self.now < 80 }
         ensures { IfOk result (λ region. region ≡ self.now ++ h ∷ []) }
     {
-        let Ok(mut halves) = Vec::with_capacity(alloc, self.halves.len() + 1) else {
-            return Err(NoMemory);
-        };
-        if halves.extend_from_slice(&self.halves).is_err() || halves.push(h).is_err() {
-            return Err(NoMemory);
-        }
-        Ok(Region { halves })
+        Ok(Region {
+            chain: longer(alloc, &self.chain, h)?,
+            count: self.count + 1,
+        })
     }
 
-    /// An equal region.
+    /// An equal region. It shares the halves: no memory is taken.
     pub fn copy(&self, alloc: Global) -> Result<Region, NoMemory>
         ensures { IfOk result (λ region. region ≡ self.now) }
     {
-        let halves = copied(alloc, &self.halves)?;
-        Ok(Region { halves })
+        let _ = alloc;
+        Ok(Region {
+            chain: owned(&self.chain)?,
+            count: self.count,
+        })
     }
 
     /// Whether the point is in each half. It takes at most one step a half, and no memory.
@@ -93,29 +112,14 @@ impl Region {
     {
         // The denominator of a `Pt` is at least 1.
         let _ = r.parts();
-        all_hold(&self.halves, r, steps)
+        all_hold(&self.chain, r, steps)
     }
-}
 
-// Whether the point is in each of the halves.
-fn all_hold<L: Ledger>(halves: &[Half], r: &Pt, steps: &mut Steps<L>) -> bool
-    ensures held { IsTrue result ↔ AllByRecursion (λ h. IsInHalf h r.now) halves.now }
-    ensures at_most { steps.new ≤ steps.old + length halves.now }
-{
-    for h in halves {
-        if !h.holds(r, steps) {
-            return false;
-        }
-    }
-    true
-}
-
-// The same halves, in memory of their own.
-fn copied(alloc: Global, halves: &[Half]) -> Result<Vec<Half>, NoMemory>
-    ensures { IfOk result (λ copy. copy.items ≡ halves.now) }
-{
-    match Vec::from_slice(alloc, halves) {
-        Ok(copy) => Ok(copy),
-        Err(_) => Err(NoMemory),
+    /// Whether the corner, which is in the halves with their edges, is in each half. It looks at the open edges alone.
+    pub fn has_corner(&self, corner: &Corner) -> bool
+        requires { AllByRecursion (λ h. pos 0 ≤ℤ value h.form corner.now) self.now }
+        ensures { IsTrue result ↔ AllByRecursion (λ h. IsInHalf h corner.now) self.now }
+    {
+        has_corner(&self.chain, corner)
     }
 }

@@ -12,13 +12,15 @@ returns-then-not-is_inside-clause-cell c =
 
 pub invariant_of-result : goal.invariant_of-result
 invariant_of-result c =
-    let s : c.sum-sample.result ≡ sum_of c.args.corners.items = rw c.deref.ensures.value at c.sum-sample.ensures in
-    record {
-      corners = rw c.new.ensures c.requires;
-      inside = rw s (sum_inside c.args.region c.args.corners.items c.requires (rw s at (c.if-not-is_inside.ensures.0 refl)));
-      count = rw c.len.ensures.value at c.len.ensures.high;
-      near = c.len.ensures.near;
-    }
+    let s : c.sum-sample.result ≡ sum_of c.args.corners.items = rw c.deref.ensures.value at c.sum-sample.ensures in (
+      sum_of c.args.corners.items,
+      record {
+        corners = rw c.new.ensures c.requires;
+        inside = sum_inside c.args.region c.args.corners.items c.requires (rw s at (c.if-not-is_inside.ensures.0 refl));
+        count = rw c.len.ensures.value at c.len.ensures.high;
+        near = c.len.ensures.near;
+      },
+    )
 
 pub returns-clause-point : goal.returns-clause-point
 returns-clause-point c =

@@ -1,24 +1,15 @@
-use Rattle.std.proofs.Common.{FitsSigned, ◌^◌, pos, lit<}
-use Rattle.std.specs.Int.{w128}
-use Rattle.std.proofs.lemmas.Int.{to_z-of_z}
-use Rattle.srs_num.proofs.Ranges.{small_fits}
-use Rattle.srs_num.proofs.Floors.{zero_bits, nonzero_bits}
-use Rattle.srs_cell.proofs.OneSided.{by_lt, by_not, below_from_high, above_from_high, below_from_open, above_from_closed}
+use Rattle.std.proofs.Common.{◌≤◌, arith}
+use Rattle.srs_cell.proofs.Parting.{reaches_above, stays_below}
 use Rattle.srs_cell.proofs.sides.is_below.Goals as goal
 
-pub returns-then-high-eq0 : goal.returns-then-high-eq0
-returns-then-high-eq0 c =
-    let R = c.args.cell.now in
-    let f = c.args.form.now in
-    let b = c.high-high.result in
-    let fits : FitsSigned w128 b.num = small_fits w128 b.num (2 ^ 117) c.high-high.ensures.sized.num_range (lit< tt) in
-    let zero = zero_bits b.num fits c.if-high-eq0.true in
-    by_not b.attained (below_from_open R f b c.high-high.ensures.high zero) (above_from_closed R f b c.high-high.ensures.high zero)
+pub returns-then-tally-gt0 : goal.returns-then-tally-gt0
+returns-then-tally-gt0 c =
+    let k = c.cell.inside in
+    let some : 1 ≤ c.tally-tally.result.above = omega (arith, c.if-tally-gt0.true) in
+    rw (← c.cell.view_is) (reaches_above k.region k.corners c.cell.invariant.0 c.args.form.now c.tally-tally.result c.cell.invariant.1 c.tally-tally.ensures some)
 
-pub returns : goal.returns
-returns c =
-    let R = c.args.cell.now in
-    let f = c.args.form.now in
-    let b = c.high-high.result in
-    let fits : FitsSigned w128 b.num = small_fits w128 b.num (2 ^ 117) c.high-high.ensures.sized.num_range (lit< tt) in
-    simp to_z-of_z (by_lt b.num (pos 0) (below_from_high R f b c.high-high.ensures.high) (above_from_high R f b c.high-high.ensures.high (nonzero_bits b.num c.if-high-eq0.false)))
+pub returns-then-tally-eq0 : goal.returns-then-tally-eq0
+returns-then-tally-eq0 c =
+    let k = c.cell.inside in
+    rw (← c.cell.view_is) (stays_below k.region k.corners c.cell.invariant.0 c.args.form.now c.tally-tally.result c.cell.invariant.1 c.tally-tally.ensures
+    (omega (arith, c.if-tally-gt0.false)) c.if-tally-eq0.true)

@@ -1,9 +1,5 @@
-use Rattle.srs_plane.proofs.Near.{polygon_bounded}
 use Rattle.srs_plane.proofs.Inside.{polygon_has_point}
 use Rattle.srs_plane.proofs.polygons.polygon.Goals as goal
-
-pub of-requires : goal.of-requires
-of-requires c = rw c.in_ok-halves.ensures.ok (polygon_bounded c.args.vs.now c.in_ok-check_turns.ensures.ok)
 
 pub returns-clause-point : goal.returns-clause-point
 returns-clause-point c = polygon_has_point c.args.vs.now c.in_ok-check_turns.ensures.ok

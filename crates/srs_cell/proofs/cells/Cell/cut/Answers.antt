@@ -1,15 +1,15 @@
-use Rattle.std.proofs.Common.{refl}
-use Rattle.srs_cell.proofs.Divided.{all_ge, divided}
+use Rattle.srs_cell.proofs.Counting.{none_below, low_corners}
+use Rattle.srs_cell.proofs.Parting.{cell_above, cell_below}
 use Rattle.srs_cell.proofs.cells.Cell.cut.Goals as goal
 
-pub returns-in_default-2 : goal.returns-in_default-2
-returns-in_default-2 c = all_ge c.args.self.now c.args.h.now (rw (c.in_default-2.is, c.opposite.ensures) at c.in_ok-below.ensures.part)
+pub returns-then-tally-eq0 : goal.returns-then-tally-eq0
+returns-then-tally-eq0 c =
+    let k = c.self.inside in
+    rw (← c.self.view_is) (cell_above k.region k.corners c.self.invariant.0 c.args.h.now c.self.invariant.1
+    (none_below c.args.h.now k.corners c.tally-tally.result c.tally-tally.ensures c.if-tally-eq0.true))
 
-pub returns : goal.returns
-returns c = record {
-  divides = divided c.args.self.now c.args.h.now
-      ((rw c.in-Some.is at c.in_ok-above.ensures.point) refl)
-      ((rw (c.in-Some-2.is, c.opposite.ensures) at c.in_ok-below.ensures.point) refl);
-  above = rw c.in-Some.is at c.in_ok-above.ensures.part;
-  below = rw (c.in-Some-2.is, c.opposite.ensures) at c.in_ok-below.ensures.part;
-}
+pub returns-then-tally-eq0-3 : goal.returns-then-tally-eq0-3
+returns-then-tally-eq0-3 c =
+    let k = c.self.inside in
+    rw (← c.self.view_is) (cell_below k.region k.corners c.self.invariant.0 c.args.h.now c.self.invariant.1
+    (low_corners c.args.h.now k.corners c.tally-tally.result c.tally-tally.ensures c.if-tally-eq0-2.true c.if-tally-eq0-3.true))

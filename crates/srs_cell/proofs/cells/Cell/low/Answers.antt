@@ -32,3 +32,6 @@ pub is_inside-requires : goal.is_inside-requires
 is_inside-requires c =
     let cell = c.corners-corners.ensures in
     rw c.region.ensures.value (least_in_halves c.args.self.now _ cell.1.corners.hull.inside c.args.f.now c.least_corner-least.result _ c.least_sum-total.ensures)
+
+pub value_at-requires : goal.value_at-requires
+value_at-requires c = let cell = c.corners-corners.ensures in sized_among _ c.least_corner-least.result cell.1.corners.sized c.least_corner-least.ensures.among

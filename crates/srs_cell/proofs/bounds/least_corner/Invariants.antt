@@ -1,7 +1,0 @@
-use Rattle.std.proofs.Common.{take}
-use Rattle.std.specs.List.{Contains}
-use Rattle.srs_cell.specs.Bounds.{IsLeast}
-use Rattle.srs_cell.proofs.bounds.least_corner.Given as goal
-
-abbrev pub invariant-loop-i : goal.invariant-loop-i
-invariant-loop-i l = Contains l.corners l.least × IsLeast l.form (take l.i l.corners) l.least
