@@ -8,3 +8,4 @@ pub mod Soundness
 pub mod Lists
 pub mod Views
 pub mod Paths
+pub mod HeldOutcomes

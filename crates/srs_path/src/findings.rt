@@ -1,19 +1,30 @@
 // Findings, which are sound by their type.
-ghost use Rattle.std.specs.Prelude.{◌≡◌};
+ghost use Rattle.std.specs.Prelude.{◌≡◌, IfOk, IfErr};
+ghost use Rattle.std.specs.Arc.{arc_value};
 ghost use Rattle.srs_path.specs.declared.outcomes.Outcome.TheVariants.{Left};
 ghost use Rattle.srs_path.specs.declared.outcomes.Cause.TheVariants.{Memory};
 ghost use Rattle.srs_path.specs.Soundness.{IsSound};
+ghost use Rattle.srs_path.specs.HeldOutcomes.{outcome_held};
 
 use crate::{Cause, Outcome};
 use srs_plane::Region;
+use std::alloc::Global;
 use std::marker::Model;
+use std::sync::Arc;
+
+// An outcome of one's own, or one that may have other owners.
+#[derive(Drop)]
+pub(crate) enum Held {
+    Own(Outcome),
+    Shared(Arc<Outcome>),
+}
 
 /// An outcome of a region, for the most witnesses `w` of a cell. It is always sound.
 #[derive(Drop)]
 pub struct Finding {
     region: Region,
     w: u32,
-    outcome: Outcome,
+    held: Held,
 }
 
 impl Model for Finding {
@@ -22,10 +33,11 @@ impl Model for Finding {
     ghost Value = { Found };
 
     ghost use Rattle.srs_path.specs.Soundness.{IsSound};
+    ghost use Rattle.srs_path.specs.HeldOutcomes.{outcome_held};
 
-    ghost view = { λ f. record { region = f.region; w = f.w; outcome = f.outcome } };
+    ghost view = { λ f. record { region = f.region; w = f.w; outcome = outcome_held f.held } };
 
-    ghost invariant = { λ f. IsSound f.region f.w f.outcome };
+    ghost invariant = { λ f. IsSound f.region f.w (outcome_held f.held) };
 }
 
 impl Finding {
@@ -34,7 +46,11 @@ impl Finding {
         requires { IsSound region w outcome }
         ensures { result ≡ record { region = region; w = w; outcome = outcome } }
     {
-        Finding { region, w, outcome }
+        Finding {
+            region,
+            w,
+            held: Held::Own(outcome),
+        }
     }
 
     /// The region is left for want of memory.
@@ -44,7 +60,7 @@ impl Finding {
         Finding {
             region,
             w,
-            outcome: Outcome::Left(Cause::Memory),
+            held: Held::Own(Outcome::Left(Cause::Memory)),
         }
     }
 
@@ -65,16 +81,48 @@ impl Finding {
         ensures outcome { result.now ≡ self.now.outcome }
         ensures sound { IsSound self.now.region self.now.w self.now.outcome }
     {
-        &self.outcome
+        match &self.held {
+            Held::Own(outcome) => outcome,
+            Held::Shared(outcome) => outcome.as_ref(),
+        }
     }
 
-    /// The region, the number of witnesses and the outcome.
-    pub fn parts(self) -> (Region, u32, Outcome)
-        ensures region { result.0 ≡ self.region }
-        ensures w { result.1 ≡ self.w }
-        ensures outcome { result.2 ≡ self.outcome }
-        ensures sound { IsSound result.0 result.1 result.2 }
+    /// Two owners of the outcome. An `Err` is want of memory, and gives the finding back.
+    pub fn shared(self, alloc: Global) -> Result<(Arc<Outcome>, Arc<Outcome>), Finding>
+        ensures first { IfOk result (λ owners. arc_value owners.0 ≡ self.outcome) }
+        ensures second { IfOk result (λ owners. arc_value owners.1 ≡ self.outcome) }
+        ensures sound { IsSound self.region self.w self.outcome }
+        ensures err { IfErr result (λ f. f ≡ self) }
     {
-        (self.region, self.w, self.outcome)
+        let Finding { region, w, held } = self;
+        match owner(alloc, held) {
+            Ok(outcome) => match Arc::try_clone(&outcome) {
+                Ok(other) => Ok((outcome, other)),
+                Err(_) => Err(Finding {
+                    region,
+                    w,
+                    held: Held::Shared(outcome),
+                }),
+            },
+            Err(outcome) => Err(Finding {
+                region,
+                w,
+                held: Held::Own(outcome),
+            }),
+        }
+    }
+}
+
+// The outcome with an owner. An `Err` is want of memory.
+fn owner(alloc: Global, held: Held) -> Result<Arc<Outcome>, Outcome>
+    ensures ok { IfOk result (λ owner. arc_value owner ≡ outcome_held held) }
+    ensures err { IfErr result (λ outcome. outcome ≡ outcome_held held) }
+{
+    match held {
+        Held::Own(outcome) => match Arc::new(alloc, outcome) {
+            Ok(outcome) => Ok(outcome),
+            Err(failed) => Err(failed.value),
+        },
+        Held::Shared(outcome) => Ok(outcome),
     }
 }

@@ -26,12 +26,12 @@ use Rattle.srs_path.specs.Views.{Entry}
 use Rattle.srs_path.specs.Refinement.{Refines}
 use Rattle.srs_tree.specs.Tree.{History, path_eq, outcome_at, IsCellOf}
 use Rattle.srs_tree.specs.Legality.{MayFollow, IsLegal}
-use Rattle.srs_tree.specs.Rounds.{parts_by, cells_of, upto, row_of, last_in, IsWhole}
+use Rattle.srs_tree.specs.Rounds.{parts_by, cells_of, upto, row_of, last_in, IsByPlan, IsWhole, IsPlanned}
 use Rattle.srs_tree.proofs.HistoryLemmas.{same_path, outcome_at_stays, IsLegal-append, IsLegal-empty}
 use Rattle.srs_tree.proofs.TreeLemmas.{cell_of_outcome}
 use Rattle.srs_tree.proofs.Grow.{grow}
 use Rattle.srs_tree.proofs.CellsLemmas.{outcome_there, cells_are}
-use Rattle.srs_tree.proofs.PlannedWhole.{none_counted, le_fails}
+use Rattle.srs_tree.proofs.PlannedWhole.{none_counted, le_fails, events_by_plan}
 use Rattle.srs_tree.proofs.OnePlanLemmas.{path-decides}
 
 abbrev one_if : Bool → ℕ
@@ -236,7 +236,18 @@ all_zero : (H : History) → AllByRecursion (λ (f : Entry). 0 ≤ length f.path
 all_zero [] = tt
 all_zero (f ∷ H) = (omega arith, all_zero H)
 
-module _ (Root : Area) (L : Budget) (H : History) (whole : IsWhole Root L H) where
+-- a legal history, each event of which is by the plan of the whole
+pub record GoesByPlan (Root : Area) (L : Budget) (H : History) : Type 0 where
+  pub legal : IsLegal Root L.wits H
+  pub each_event : (e : Entry) → Contains H e → IsByPlan Root L H e
+
+pub by_whole : (Root : Area) (L : Budget) (H : History) → IsWhole Root L H → GoesByPlan Root L H
+by_whole Root L H whole = record { legal = whole.legal; each_event = whole.each_event }
+
+pub by_planned : (Root : Area) (L : Budget) (H : History) → IsPlanned Root L H → GoesByPlan Root L H
+by_planned Root L H planned = record { legal = planned.legal; each_event = events_by_plan Root L H planned }
+
+module _ (Root : Area) (L : Budget) (H : History) (whole : GoesByPlan Root L H) where
   pub last_no_cuts : (k : ℕ) → (last_in L H k ≡ None → ⊥) → cuts H k ≡ 0
   last_no_cuts k n = count_none (λ (e : Entry). is_cut e.outcome && (length e.path == k)) H fails
     where
@@ -260,10 +271,10 @@ module _ (Root : Area) (L : Budget) (H : History) (whole : IsWhole Root L H) whe
       omega (arith, a, b)
 
   -- at most C cells down to each row
-  pub upto_bound : 1 ≤ L.cells → (k : ℕ) → upto H k ≤ L.cells
-  upto_bound some zero = omega (arith, first_row)
-  upto_bound some (suc k) =
-      let rest : upto H k ≤ L.cells = upto_bound some k in
+  pub upto_within : 1 ≤ L.cells → (k : ℕ) → upto H k ≤ L.cells
+  upto_within some zero = omega (arith, first_row)
+  upto_within some (suc k) =
+      let rest : upto H k ≤ L.cells = upto_within some k in
       let grown : upto H (k + 1) ≤ L.cells = elim (none_or_not (last_in L H k)) [
         | inl e ↦ let room : upto H k + 2 * row_of H k ≤ L.cells = last_room (k == L.depth) L.cells (upto H k + 2 * row_of H k) e in
             omega (arith, room, upto_next H k, row_next H k, cuts_row Root L.wits H k whole.legal)
@@ -285,8 +296,8 @@ module _ (Root : Area) (L : Budget) (H : History) (whole : IsWhole Root L H) whe
       ap (row_of H) same ∙ (omega (arith, a, b, c))
 
   -- no cell is deeper than D
-  pub depth_bound : (p : List Side) → IsCellOf (outcome_at H) p → length p ≤ L.depth
-  depth_bound p c =
+  pub depth_within : (p : List Side) → IsCellOf (outcome_at H) p → length p ≤ L.depth
+  depth_within p c =
       let no : L.depth < length p → ⊥ = λ l.
       let j : ℕ = length p - (L.depth + 1) in
       let same : L.depth + j + 1 ≡ length p = omega arith in
@@ -296,10 +307,17 @@ module _ (Root : Area) (L : Budget) (H : History) (whole : IsWhole Root L H) whe
       omega (arith, no)
 
   -- at most C cells in all
-  pub cells_bound : 1 ≤ L.cells → length (cells_of H) ≤ L.cells
-  cells_bound some =
-      let a : upto H L.depth ≡ length (cells_of H) = count_all (λ (p : List Side). nat_le (length p) L.depth) (cells_of H) (λ p c. le_holds (length p) L.depth (depth_bound p ((cells_are Root L.wits H whole.legal).to p c))) in
-      omega (arith, a, upto_bound some L.depth)
+  pub cells_within : 1 ≤ L.cells → length (cells_of H) ≤ L.cells
+  cells_within some =
+      let a : upto H L.depth ≡ length (cells_of H) = count_all (λ (p : List Side). nat_le (length p) L.depth) (cells_of H) (λ p c. le_holds (length p) L.depth (depth_within p ((cells_are Root L.wits H whole.legal).to p c))) in
+      omega (arith, a, upto_within some L.depth)
     where
       le_holds : (a k : ℕ) → a ≤ k → nat_le a k ≡ true
       le_holds a k l = grind (arith, nat_tests)
+
+module _ (Root : Area) (L : Budget) (H : History) (whole : IsWhole Root L H) where
+  pub depth_bound : (p : List Side) → IsCellOf (outcome_at H) p → length p ≤ L.depth
+  depth_bound = depth_within Root L H (by_whole Root L H whole)
+
+  pub cells_bound : 1 ≤ L.cells → length (cells_of H) ≤ L.cells
+  cells_bound = cells_within Root L H (by_whole Root L H whole)

@@ -1,6 +1,6 @@
 -- A planned history in which each cell has an event is whole, and in rounds.
 use Rattle.std.proofs.Common.{◌≡◌, inl, inr, ℕ, zero, suc, ◌+◌, ◌-◌, ◌*◌, ◌<◌, ◌≤◌, Bool, false, cond, List, [], ◌∷◌, ◌++◌, take, drop, slice_get, length, length-append, length-drop, get_or, refl, sym, ap, ap₂, subst, ◌∙◌, arith, true≢false, append_assoc, append-nil, take-append-drop}
-use Rattle.std.specs.Prelude.{◌==◌, nat_le, nat_lt, if◌then◌else◌, count_by, IsSome}
+use Rattle.std.specs.Prelude.{◌==◌, nat_le, nat_lt, if◌then◌else◌, count_by, Contains, IsSome}
 use Rattle.std.specs.List.{flat_map, AllByRecursion}
 use Rattle.std.proofs.lemmas.Bool.Decides.{nat_tests}
 use Rattle.std.proofs.lemmas.Option.{none-some, slice_get-get_or}
@@ -124,11 +124,14 @@ module _ (Root : Area) (L : Budget) (H : History) (planned : IsPlanned Root L H)
       let may = planned.each k e g in
       subst (λ (u : History). IsByPlan Root L u e) (joined k) (plan_stays Root L (take k H) (drop k H) e (legal_at k) may.rows_done (planned.legal k e g).there may.by_plan)
 
+  pub events_by_plan : (e : Entry) → Contains H e → IsByPlan Root L H e
+  events_by_plan e c = by_plan c.0 e (slice_get-get_or H c.0 e c.1 ∙ ap Some c.2)
+
   pub IsWhole-planned : ((p : List Side) → IsCellOf (outcome_at H) p → IsSome (outcome_at H p)) → IsWhole Root L H
   IsWhole-planned each_cell = record {
     legal = planned.legal;
     each_cell = each_cell;
-    each_event = λ e c. by_plan c.0 e (slice_get-get_or H c.0 e c.1 ∙ ap Some c.2);
+    each_event = events_by_plan;
   }
 
   -- this wants no event in each cell

@@ -10,7 +10,7 @@ ghost use Rattle.srs_tree.specs.Queue.{cell_in, cells_from};
 ghost use Rattle.srs_tree.specs.Rounds.{parts_by};
 
 use crate::nodes::{Node, find, shared};
-use crate::{Pending, TreeErr};
+use crate::{Added, Pending, TreeErr};
 use srs_cell::{Cell, Parts};
 use srs_num::{Form, NoMemory};
 use srs_path::{Finding, Outcome, Path, Side};
@@ -62,17 +62,18 @@ fn other_cell(cell: &Arc<Cell>, f: Finding) -> TreeErr
     }
 }
 
-// The outcome of the finding comes to the cell at the path, and its parts are given. An `Err` leaves the cells as they were.
+// The outcome of the finding comes to the cell at the path, and what came is given. An `Err` leaves the cells as they were.
 pub(crate) fn add_to(
     nodes: &mut Vec<Node>,
     alloc: Global,
     path: &Path,
     f: Finding,
-) -> Result<Option<(Pending, Pending)>, TreeErr>
+) -> Result<Added, TreeErr>
     requires spots { AreSpots nodes.old.items }
     requires short { IsShortCut path.now f.outcome }
     ensures grown { OnOk result (HasGrown nodes.old.items nodes.new.items path.now f) }
-    ensures parts { IfOk result (λ parts. cells_from parts ≡ map (cell_in (snapshot_of nodes.new.items)) (parts_by path.now f.outcome)) }
+    ensures parts { IfOk result (λ added. cells_from added.parts ≡ map (cell_in (snapshot_of nodes.new.items)) (parts_by path.now f.outcome)) }
+    ensures outcome { IfOk result (λ added. arc_value added.outcome ≡ f.outcome) }
     ensures refused { IfErr result (λ e. IsTreeErr (snapshot_of nodes.old.items) path.now f e) }
     ensures same { OnErr result (nodes.new.items ≡ nodes.old.items) }
 {
@@ -80,24 +81,20 @@ pub(crate) fn add_to(
     let _ = path.len();
     let (i, f) = place_for(nodes, path, f)?;
     match enter(nodes, alloc, i, f) {
-        Ok(parts) => Ok(parts),
+        Ok(added) => Ok(added),
         Err(f) => Err(TreeErr::NoMemory(f)),
     }
 }
 
-// The outcome of the finding comes to the cell at the place `i`, and its parts are given. An `Err` is want of memory: the
+// The outcome of the finding comes to the cell at the place `i`, and what came is given. An `Err` is want of memory: the
 // cells stay as they were, and the finding comes back.
-fn enter(
-    nodes: &mut Vec<Node>,
-    alloc: Global,
-    i: usize,
-    f: Finding,
-) -> Result<Option<(Pending, Pending)>, Finding>
+fn enter(nodes: &mut Vec<Node>, alloc: Global, i: usize, f: Finding) -> Result<Added, Finding>
     requires there { i < vec_len nodes.old }
     requires may { (x : Spot) → slice_get nodes.old.items i ≡ Some x → IsReadyFor x f }
     ensures ok { OnOk result ((x : Spot) → slice_get nodes.old.items i ≡ Some x → nodes.new.items ≡ grown nodes.old.items i x f.outcome) }
     ensures sound { OnOk result (IsSound f.region f.w f.outcome) }
-    ensures parts { IfOk result (λ parts. (x : Spot) → slice_get nodes.old.items i ≡ Some x → cells_from parts ≡ map waiting_of (parts_from x f.outcome)) }
+    ensures parts { IfOk result (λ added. (x : Spot) → slice_get nodes.old.items i ≡ Some x → cells_from added.parts ≡ map waiting_of (parts_from x f.outcome)) }
+    ensures outcome { IfOk result (λ added. arc_value added.outcome ≡ f.outcome) }
     ensures err { IfErr result (λ g. g ≡ f) }
     ensures same { OnErr result (nodes.new.items ≡ nodes.old.items) }
 {
@@ -112,13 +109,15 @@ fn enter(
     if nodes.reserve(2).is_err() {
         return Err(f);
     }
-    let (region, w, outcome) = f.parts();
-    match Arc::new(alloc, outcome) {
-        Ok(outcome) => {
+    match f.shared(alloc) {
+        Ok((outcome, other)) => {
             settle(nodes, i, outcome, parts);
-            Ok(open)
+            Ok(Added {
+                outcome: other,
+                parts: open,
+            })
         }
-        Err(failed) => Err(Finding::found(region, w, failed.value)),
+        Err(f) => Err(f),
     }
 }
 

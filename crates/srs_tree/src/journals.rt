@@ -30,6 +30,13 @@ impl Journal {
         }
     }
 
+    /// These events. It takes no memory.
+    pub fn of(events: Vec<Event>) -> Journal
+        ensures { result ≡ events.items }
+    {
+        Journal { events }
+    }
+
     pub fn len(&self) -> u64
         ensures { result ≡ length self.now }
     {

@@ -22,4 +22,4 @@ pub use queries::{Queries, Query, Said};
 pub use refusals::TreeErr;
 pub use sharing::shared;
 pub use versions::Version;
-pub use waiting::Pending;
+pub use waiting::{Added, Pending};

@@ -1,5 +1,6 @@
 // Versions of a tree.
 ghost use Rattle.std.specs.Prelude.{◌≡◌, ◌≤◌, [], length, map as map_list, None, Some, IfOk, IfErr, OnOk, OnErr, MatchOption};
+ghost use Rattle.std.specs.Arc.{arc_value};
 ghost use Rattle.std.specs.FinMap as map;
 ghost use Rattle.srs_plane.specs.Regions.{IsIn};
 ghost use Rattle.srs_tree.specs.Tree.{HoldsAt};
@@ -15,7 +16,7 @@ use crate::growth::{add_to, place_for};
 use crate::meetings::met_by;
 use crate::nodes::{Node, copied, outcome_at};
 use crate::walks::walk;
-use crate::{Answer, Journal, Met, Pending, TreeErr};
+use crate::{Added, Answer, Journal, Met, Pending, TreeErr};
 use srs_cell::Cell;
 use srs_num::{NoMemory, Pt, Steps};
 use srs_path::{Finding, Outcome, Path};
@@ -138,8 +139,24 @@ impl Version {
         Ok(events)
     }
 
-    /// The outcome of the finding is entered at the path; a cut's path is shorter than 48. It gives the two cells that a cut
-    /// makes, Ge first. All memory is taken before anything changes: an `Err` leaves the version as it was.
+    /// The outcome of the finding is entered at the path; a cut's path is shorter than 48. It gives an owner of the outcome,
+    /// and the two cells that a cut makes, Ge first. All memory is taken before anything changes: an `Err` leaves the version
+    /// as it was.
+    pub fn enter(&mut self, alloc: Global, path: Path, f: Finding) -> Result<Added, TreeErr>
+        requires { IsShortCut path f.outcome }
+        ensures may { OnOk result (MayEnter self.old path f) }
+        ensures entered { OnOk result (self.new ≡ with_entry self.old path f.outcome) }
+        ensures outcome { IfOk result (λ added. arc_value added.outcome ≡ f.outcome) }
+        ensures parts { IfOk result (λ added. cells_from added.parts ≡ map_list (cell_in self.new) (parts_by path f.outcome)) }
+        ensures refused { IfErr result (λ e. IsTreeErr self.old path f e) }
+        ensures same { OnErr result (self.new ≡ self.old) }
+    {
+        let added = add_to(&mut self.nodes, alloc, &path, f)?;
+        self.count += 1;
+        Ok(added)
+    }
+
+    /// As `enter`, but it gives the two cells alone.
     pub fn add(
         &mut self,
         alloc: Global,
@@ -153,9 +170,7 @@ impl Version {
         ensures refused { IfErr result (λ e. IsTreeErr self.old path f e) }
         ensures same { OnErr result (self.new ≡ self.old) }
     {
-        let parts = add_to(&mut self.nodes, alloc, &path, f)?;
-        self.count += 1;
-        Ok(parts)
+        Ok(self.enter(alloc, path, f)?.parts)
     }
 
     /// The version with the outcome of the finding entered at the path; a cut's path is shorter than 48. The refusals but
@@ -171,7 +186,7 @@ impl Version {
             Ok(nodes) => nodes,
             Err(NoMemory) => return Err(TreeErr::NoMemory(f)),
         };
-        let _parts = add_to(&mut nodes, alloc, &path, f)?;
+        let _added = add_to(&mut nodes, alloc, &path, f)?;
         Ok(Version {
             nodes,
             count: self.count + 1,

@@ -1,6 +1,6 @@
 // Cells without an event.
 use srs_cell::Cell;
-use srs_path::Path;
+use srs_path::{Outcome, Path};
 use std::marker::Model;
 use std::sync::Arc;
 
@@ -18,4 +18,11 @@ impl Model for Pending {
     ghost Value = { WaitingCell };
 
     ghost view = { λ p. record { path = p.path; region = arc_value p.cell } };
+}
+
+/// What comes with an entry: an owner of its outcome, and the two cells that a cut makes, Ge first.
+#[derive(Drop)]
+pub struct Added {
+    pub outcome: Arc<Outcome>,
+    pub parts: Option<(Pending, Pending)>,
 }

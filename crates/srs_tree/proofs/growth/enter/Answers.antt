@@ -10,7 +10,7 @@ parts_of-requires c =
     let e = slice_get_read c.args.nodes.now.items _ c.args.i c.index.result.now (omega arith) c.requires.there c.index.ensures in
     subst (MaySettle c.index.result.now) (sym c.outcome.ensures.outcome) (may_settle c.index.result.now c.args.f (c.requires.may c.index.result.now e) c.outcome.ensures.sound)
 
-pub returns-in-Ok-new-clause-ok : goal.returns-in-Ok-new-clause-ok
-returns-in-Ok-new-clause-ok c = λ x e.
+pub returns-in-Ok-shared-clause-ok : goal.returns-in-Ok-shared-clause-ok
+returns-in-Ok-shared-clause-ok c = λ x e.
     grown_moved c.args.nodes.now.items c.reserve.new.self.items c.settle.new.nodes.items _ c.args.i _ c.args.f.outcome c.outcome.result.now c.index.result.now x
-    c.reserve.ensures.items (c.in-Ok-new.ensures.ok ∙ c.parts-region.ensures.outcome) c.outcome.ensures.outcome c.index.ensures c.in-Ok.ensures c.settle.ensures e
+    c.reserve.ensures.items c.in-Ok-shared.ensures.first c.outcome.ensures.outcome c.index.ensures c.in-Ok.ensures c.settle.ensures e

@@ -1,0 +1,56 @@
+-- What the book of an atlas keeps, and what its operations promise.
+use Rattle.std.specs.Prelude.{◌≡◌, ◌≤◌, List, map, Some, IfOk}
+use Rattle.std.specs.declared.result.Result.{Result}
+use Rattle.srs_num.specs.declared.pairs.NoMemory.{NoMemory}
+use Rattle.srs_plane.specs.Regions.{Area}
+use Rattle.srs_path.specs.declared.paths.Side.{Side}
+use Rattle.srs_path.specs.Views.{Budget}
+use Rattle.srs_tree.specs.Tree.{History, Tree, outcome_at, region_at}
+use Rattle.srs_tree.specs.Legality.{IsLegal}
+use Rattle.srs_tree.specs.Rounds.{IsPlanned}
+use Rattle.srs_tree.specs.Snapshots.{Snapshot, StandsFor}
+use Rattle.srs_tree.specs.Queue.{WaitingCell, queue_of}
+use Rattle.srs_atlas.specs.declared.book.Terms.{Terms}
+
+-- a cell has 1 to 16384 witnesses at most, and a plan has this number of witnesses
+pub record AreTerms (terms : Terms) : Type 0 where
+  pub some_wit : 1 ≤ terms.w
+  pub wits : terms.w ≤ 16384
+  pub same : (L : Budget) → terms.plan ≡ Some L → L.wits ≡ terms.w
+
+-- the history is legal, and where there is a plan it keeps to it
+pub record IsLawful (terms : Terms) (H : History) : Type 0 where
+  pub legal : IsLegal terms.root terms.w H
+  pub planned : (L : Budget) → terms.plan ≡ Some L → IsPlanned terms.root L H
+
+-- the cell of T at the path
+abbrev pub cell_at : Area → Tree → List Side → WaitingCell
+cell_at Root T path = record { path = path; region = region_at Root T path }
+
+-- the cells of H without an event, in the order of the frontier
+abbrev pub waiting_in : Area → History → List WaitingCell
+waiting_in Root H = map (cell_at Root (outcome_at H)) (queue_of H)
+
+-- a book: its history and its terms
+pub record Kept : Type 0 where
+  pub history : History
+  pub terms : Terms
+
+-- what a book keeps: the history is lawful, the version stands for it, and the cells without an event wait
+pub record IsBook (terms : Terms) (H : History) (v : Snapshot) (waiting : List WaitingCell) : Type 0 where
+  pub bounds : AreTerms terms
+  pub lawful : IsLawful terms H
+  pub stands : StandsFor terms.root H v
+  pub waits : waiting ≡ waiting_in terms.root H
+
+-- the version that stands for the history was given, or there was no memory
+pub record Shares (terms : Terms) (before : History) (reply : Result Snapshot NoMemory) (after : History) : Type 0 where
+  pub same : after ≡ before
+  pub version : IfOk reply (StandsFor terms.root after)
+  pub lawful : IsLawful terms after
+
+-- the cells that wait were given, or there was no memory
+pub record Lists (terms : Terms) (before : History) (reply : Result (List WaitingCell) NoMemory) (after : History) : Type 0 where
+  pub same : after ≡ before
+  pub cells : IfOk reply (λ cells. cells ≡ waiting_in terms.root after)
+  pub lawful : IsLawful terms after

@@ -1,0 +1,4 @@
+pub mod Books
+pub mod Commits
+pub mod Waiting
+pub mod Counting

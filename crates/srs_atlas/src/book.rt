@@ -1,0 +1,153 @@
+// The book that lies in the turn of an atlas.
+ghost use Rattle.std.specs.Prelude.{◌≡◌, ◌≤◌, [], ◌∷◌, ◌++◌, length, IfOk};
+ghost use Rattle.srs_turn.specs.Prefixes.{AddsAtMostOne};
+ghost use Rattle.srs_tree.specs.Snapshots.{StandsFor};
+ghost use Rattle.srs_atlas.specs.Books.{AreTerms, IsLawful, waiting_in};
+ghost use Rattle.srs_atlas.specs.Counting.{AreCounts};
+ghost use Rattle.srs_atlas.specs.Commits.{IsReady, Commits};
+
+use crate::commits::{Commit, refused};
+use crate::counts::{Counts, counts_of};
+use crate::lists::{PendingList, place_of, replace};
+use srs_cell::Cell;
+use srs_num::NoMemory;
+use srs_path::{Event, Finding, Limits, Path};
+use srs_plane::Region;
+use srs_tree::{Added, Journal, Pending, Version};
+use srs_turn::Told;
+use std::alloc::Global;
+use std::marker::Model;
+
+/// What no operation on an atlas changes: the root region, the most witnesses of a cell, and the plan, if there is one. No
+/// value of it is made.
+pub struct Terms {
+    pub root: Region,
+    pub w: u32,
+    pub plan: Option<Limits>,
+}
+
+/// A history, with the version that stands for it and the cells that wait.
+#[derive(Drop)]
+pub struct Book {
+    version: Version,
+    events: Vec<Event>,
+    waiting: Vec<Pending>,
+    w: u32,
+    plan: Option<Limits>,
+}
+
+impl Model for Book {
+    ghost use Rattle.srs_atlas.specs.Books.{Kept, IsBook};
+
+    ghost Value = { Kept };
+
+    ghost view = { λ b. record { history = b.events.items; terms = record { root = b.version.region; w = b.w; plan = b.plan } } };
+
+    ghost invariant = { λ b. IsBook (record { root = b.version.region; w = b.w; plan = b.plan }) b.events.items b.version b.waiting.items };
+}
+
+impl Told for Book {
+    type Entry = Event;
+
+    type Fixed = Terms;
+
+    ghost told = { λ b. b.history };
+
+    ghost fixed = { λ b. b.terms };
+
+    fn count(&self) -> u64 {
+        self.events.len() as u64
+    }
+}
+
+impl Book {
+    // The book of the cell without an event, for a cell of at most 16 halves. An `Err` is want of memory.
+    pub(crate) fn new(
+        alloc: Global,
+        cell: Cell,
+        w: u32,
+        plan: &Option<Limits>,
+    ) -> Result<Book, NoMemory>
+        requires few { length cell ≤ 16 }
+        requires terms { AreTerms (record { root = cell; w = w; plan = plan.now }) }
+        ensures history { IfOk result (λ b. b.history ≡ []) }
+        ensures terms { IfOk result (λ b. b.terms ≡ record { root = cell; w = w; plan = plan.now }) }
+    {
+        let version = Version::start(alloc, cell)?;
+        let root = version.root()?;
+        let mut waiting = Vec::new(alloc);
+        match waiting.push(root) {
+            Ok(()) => Ok(Book {
+                version,
+                events: Vec::new(alloc),
+                waiting,
+                w,
+                plan: *plan,
+            }),
+            Err(_) => Err(NoMemory),
+        }
+    }
+
+    // The finding comes to the cell at the path. All memory is taken before anything changes.
+    pub(crate) fn enter(&mut self, alloc: Global, path: Path, f: Finding) -> Commit
+        requires { IsReady self.old.terms self.old.history path f }
+        ensures did { Commits self.old.terms path f self.old.history result self.new.history }
+        ensures grown { AddsAtMostOne self.old.history self.new.history }
+        ensures terms { self.new.terms ≡ self.old.terms }
+    {
+        // A finding is sound.
+        let _ = f.w();
+        if self.events.reserve(1).is_err() || self.waiting.reserve(2).is_err() {
+            return Commit::NoMemory(f);
+        }
+        match self.version.enter(alloc, path, f) {
+            Ok(Added { outcome, parts }) => {
+                let Some(at) = place_of(&self.waiting, &path) else {
+                    unreachable!()
+                };
+                replace(&mut self.waiting, at, parts);
+                self.events.push_reserved(Event { path, outcome });
+                Commit::Done(self.events.len() as u64)
+            }
+            Err(refusal) => refused(refusal),
+        }
+    }
+
+    // The version, shared. An `Err` is want of memory.
+    pub(crate) fn share(&self, alloc: Global) -> Result<Version, NoMemory>
+        ensures version { IfOk result (StandsFor self.now.terms.root self.now.history) }
+        ensures lawful { IsLawful self.now.terms self.now.history }
+    {
+        self.version.share(alloc)
+    }
+
+    // The cells that wait, shared. An `Err` is want of memory.
+    pub(crate) fn list(&self, alloc: Global) -> Result<PendingList, NoMemory>
+        ensures cells { IfOk result (λ list. list ≡ waiting_in self.now.terms.root self.now.history) }
+        ensures lawful { IsLawful self.now.terms self.now.history }
+    {
+        PendingList::of(alloc, &self.waiting)
+    }
+
+    // How many cells there are down to a round, and in it.
+    pub(crate) fn counts(&self, round: u32) -> Counts
+        ensures counts { AreCounts self.now.history round result }
+        ensures lawful { IsLawful self.now.terms self.now.history }
+    {
+        counts_of(&self.events, round)
+    }
+
+    // The version and the history. It takes no memory.
+    pub(crate) fn close(self) -> (Version, Journal)
+        ensures history { result.1 ≡ self.history }
+        ensures version { StandsFor self.terms.root self.history result.0 }
+        ensures lawful { IsLawful self.terms self.history }
+    {
+        let Book {
+            version,
+            events,
+            ..
+        } = self;
+        (version, Journal::of(events))
+    }
+}

@@ -1,0 +1,17 @@
+//! A tree that threads refine and ask at the same time, as one history.
+#![tactic(auto)]
+
+mod atlas;
+mod book;
+mod commits;
+mod counts;
+mod lists;
+mod operations;
+mod sharing;
+
+pub use atlas::{Atlas, AtlasPass};
+pub use book::{Book, Terms};
+pub use commits::Commit;
+pub use counts::Counts;
+pub use lists::{PendingList, shared_cell};
+pub use sharing::shared;
