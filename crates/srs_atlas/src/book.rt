@@ -8,12 +8,12 @@ ghost use Rattle.srs_atlas.specs.Commits.{IsReady, Commits};
 
 use crate::commits::{Commit, refused};
 use crate::counts::{Counts, counts_of};
-use crate::lists::{PendingList, place_of, replace};
+use crate::lists::{place_of, replace, shared_cells};
 use srs_cell::Cell;
 use srs_num::NoMemory;
 use srs_path::{Event, Finding, Limits, Path};
 use srs_plane::Region;
-use srs_tree::{Added, Journal, Pending, Version};
+use srs_tree::{Added, Journal, Pending, PendingList, Version};
 use srs_turn::Told;
 use std::alloc::Global;
 use std::marker::Model;
@@ -126,7 +126,7 @@ impl Book {
         ensures cells { IfOk result (λ list. list ≡ waiting_in self.now.terms.root self.now.history) }
         ensures lawful { IsLawful self.now.terms self.now.history }
     {
-        PendingList::of(alloc, &self.waiting)
+        shared_cells(alloc, &self.waiting)
     }
 
     // How many cells there are down to a round, and in it.

@@ -13,5 +13,6 @@ pub use atlas::{Atlas, AtlasPass};
 pub use book::{Book, Terms};
 pub use commits::Commit;
 pub use counts::Counts;
-pub use lists::{PendingList, shared_cell};
+pub use lists::shared_cell;
 pub use sharing::shared;
+pub use srs_tree::PendingList;

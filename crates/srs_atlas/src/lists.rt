@@ -6,73 +6,19 @@ ghost use Rattle.srs_atlas.specs.Waiting.{IsPlaceAt, HasNoCell};
 
 use srs_num::NoMemory;
 use srs_path::Path;
-use srs_tree::Pending;
+use srs_tree::{Pending, PendingList};
 use std::alloc::Global;
-use std::marker::Model;
 use std::sync::Arc;
 
-/// Cells without an event, seen as the list of them.
-#[derive(Drop)]
-pub struct PendingList {
-    cells: Vec<Pending>,
-}
-
-impl Model for PendingList {
-    ghost use Rattle.std.specs.Prelude.{List};
-    ghost use Rattle.srs_tree.specs.Queue.{WaitingCell};
-
-    ghost Value = { List WaitingCell };
-
-    ghost view = { λ list. list.cells.items };
-}
-
-impl PendingList {
-    /// No cell. It takes no memory.
-    pub fn new(alloc: Global) -> PendingList
-        ensures { result ≡ [] }
-    {
-        PendingList {
-            cells: Vec::new(alloc),
-        }
+// These cells, shared.
+pub(crate) fn shared_cells(alloc: Global, cells: &[Pending]) -> Result<PendingList, NoMemory>
+    ensures { IfOk result (λ list. list ≡ cells.now) }
+{
+    let mut list = Vec::with_capacity(alloc, cells.len())?;
+    for cell in cells {
+        list.push(shared_cell(cell)?)?;
     }
-
-    pub fn len(&self) -> u64
-        ensures { result ≡ length self.now }
-    {
-        self.cells.len() as u64
-    }
-
-    pub fn get(&self, i: u64) -> &Pending
-        requires { i < length self.now }
-        ensures { slice_get self.now i ≡ Some result.now }
-    {
-        &self.cells[i as usize]
-    }
-
-    /// Appends the cell. An `Err` is want of memory: it gives the cell back and changes nothing.
-    pub fn push(&mut self, cell: Pending) -> Result<(), Pending>
-        ensures ok { OnOk result (self.new ≡ self.old ++ cell ∷ []) }
-        ensures err { OnErr result (self.new ≡ self.old) }
-        ensures back { IfErr result (λ back. back ≡ cell) }
-    {
-        match self.cells.push(cell) {
-            Ok(()) => Ok(()),
-            Err(refused) => Err(refused.value),
-        }
-    }
-
-    // These cells, shared.
-    pub(crate) fn of(alloc: Global, cells: &[Pending]) -> Result<PendingList, NoMemory>
-        ensures { IfOk result (λ list. list ≡ cells.now) }
-    {
-        let mut list = PendingList::new(alloc);
-        for cell in cells {
-            if list.push(shared_cell(cell)?).is_err() {
-                return Err(NoMemory);
-            }
-        }
-        Ok(list)
-    }
+    Ok(PendingList::of(list))
 }
 
 /// The same cell, with one owner more of its region. An `Err` is want of memory.

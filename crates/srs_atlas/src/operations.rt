@@ -2,10 +2,9 @@
 use crate::book::Book;
 use crate::commits::Commit;
 use crate::counts::Counts;
-use crate::lists::PendingList;
 use srs_num::NoMemory;
 use srs_path::{Finding, Path};
-use srs_tree::Version;
+use srs_tree::{PendingList, Version};
 use srs_turn::Act;
 use std::alloc::Global;
 

@@ -12,7 +12,7 @@ mod steps;
 pub use division::{ceil_div, floor_div, is_less_quotient};
 pub use forms::{Form, product};
 pub use lines::{cross, crossing_of, minor, sum, turn};
-pub use lists::{Forms, Pairs};
+pub use lists::{Any, Forms, Items, Kept, Pairs};
 pub use pairs::{NoMemory, V2};
 pub use points::{Corner, Pt};
 pub use steps::Steps;

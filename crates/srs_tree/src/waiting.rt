@@ -1,5 +1,6 @@
 // Cells without an event.
 use srs_cell::Cell;
+use srs_num::Items;
 use srs_path::{Outcome, Path};
 use std::marker::Model;
 use std::sync::Arc;
@@ -19,6 +20,9 @@ impl Model for Pending {
 
     ghost view = { λ p. record { path = p.path; region = arc_value p.cell } };
 }
+
+/// Cells without an event, seen as the list of them.
+pub type PendingList = Items<Pending>;
 
 /// What comes with an entry: an owner of its outcome, and the two cells that a cut makes, Ge first.
 #[derive(Drop)]

@@ -6,7 +6,7 @@ pub returns : goal.returns
 returns c =
     let ps = c.self.inside.pairs in
     let zs = c.self.inside.ranks in
-    let at : slice_get ps (length ps - 1) ≡ Some c.get.result.now = rw c.len-count.ensures at c.get.ensures in
+    let at : slice_get ps (length ps - 1) ≡ Some c.get.result.now = rw c.len-count.ensures.len at c.get.ensures in
     rw (← c.self.view_is) (
       λ t. follows_last ps zs c.get.result.now c.args.pair.now c.self.invariant.same at (c.comes_before.ensures.0 t),
       λ f. c.comes_before.ensures.1 (last_follows ps zs c.get.result.now c.args.pair.now c.self.invariant.same at f),
