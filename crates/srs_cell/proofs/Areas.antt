@@ -81,7 +81,7 @@ pub in_first : (R : Area) (i : ℕ) (z : Point) → IsInHalves (boxed R) z → I
 in_first R i z z_in =
     let P : LinearForm → Type 0 = λ h. pos 0 ≤ℤ value h z in
     record {
-      deep = z_in.deep;
+      positive = z_in.positive;
       each = boxed_all P (take i R) (boxed_box P R z_in.each) (All-take (λ h. P h.form) i R (boxed_halves P R z_in.each));
     }
 
@@ -98,7 +98,7 @@ in_boxed R z i n =
     let P : LinearForm → Type 0 = λ h. pos 0 ≤ℤ value h z in
     let Q : Half → Type 0 = λ h. IsInHalf h z in
     record {
-      deep = deeper z.d i.is_point;
+      positive = deeper z.d i.is_point;
       each = boxed_all P R (near_in_box z n) (All-weaker Q (λ h. P h.form) (λ h k. asked h.kind (value h.form z) k) R (All-from_recursion Q R i.halves));
     }
   where
@@ -112,12 +112,12 @@ sum_in_halves hs (c ∷ cs) a some =
     let c_in = All-head (IsInHalves hs) c cs a in
     let rest = All-tail (IsInHalves hs) c cs a in
     record {
-      deep = deeper _ _ _ _ (value-sum depth c cs) (value-depth c) (value-depth (sum_of (c ∷ cs))) c_in.deep (sum_above depth cs (λ j d lt. above_depth (get_or cs j d) (rest j d lt)));
+      positive = deeper _ _ _ _ (value-sum depth c cs) (value-depth c) (value-depth (sum_of (c ∷ cs))) c_in.positive (sum_above depth cs (λ j d lt. above_depth (get_or cs j d) (rest j d lt)));
       each = λ i d lt. sum_above (get_or hs i d) (c ∷ cs) (λ j e lt'. (a j e lt').each i d lt);
     }
   where
     above_depth : (c : Point) → IsInHalves hs c → pos 0 ≤ℤ value depth c
-    above_depth c i = from_deep _ c.d (value-depth c) i.deep
+    above_depth c i = from_deep _ c.d (value-depth c) i.positive
       where
         from_deep : (a b : ℤ) → a ≡ b → pos 0 <ℤ b → pos 0 ≤ℤ a
         from_deep a b e h = omega (arith, linear)
@@ -148,7 +148,7 @@ sum_in_each R cs z k z_in near =
 -- ---- what is known once all halves have cut the corners
 pub sum_inside : (R : Area) (cs : List Point) → AreCorners R cs → All (λ h. IsInHalf h (sum_of cs)) R → IsIn R (sum_of cs)
 sum_inside R cs k a = record {
-  is_point = point_of _ (sum_in_halves (boxed R) cs k.hull.inside k.some).deep;
+  is_point = point_of _ (sum_in_halves (boxed R) cs k.hull.inside k.some).positive;
   halves = all_by_recursion (λ h. IsInHalf h (sum_of cs)) R a;
 }
   where

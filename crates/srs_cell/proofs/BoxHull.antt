@@ -115,7 +115,7 @@ distances_weigh f z =
     tt
 
 corner_near : (p q : ℤ) → neg_ℤ (pos 4) ≤ℤ p → p ≤ℤ pos 4 → neg_ℤ (pos 4) ≤ℤ q → q ≤ℤ pos 4 → IsInHalves box (at p q)
-corner_near p q a b c d = record { deep = one; each = near_in_box (at p q) (record { p_low = a; p_high = b; q_low = c; q_high = d }) }
+corner_near p q a b c d = record { positive = one; each = near_in_box (at p q) (record { p_low = a; p_high = b; q_low = c; q_high = d }) }
   where
     one : pos 0 <ℤ pos 1
     one = omega (arith, ints)
@@ -142,7 +142,7 @@ box_hull w x y z k =
           let top = by _ _ (sym (value-top u)) (All-head Q t (l ∷ b ∷ []) b1) in
           let left = by _ _ (sym (value-left u)) (All-head Q l (b ∷ []) b2) in
           let bottom = by _ _ (sym (value-bottom u)) (All-head Q b [] b3) in
-          nonneg_from (pos 64 *ℤ u.d) (value f u) (mul_pos (pos 64) u.d (omega (arith, ints)) u_in.deep)
+          nonneg_from (pos 64 *ℤ u.d) (value f u) (mul_pos (pos 64) u.d (omega (arith, ints)) u_in.positive)
           (four _ _ _ _ _ (distances_weigh f u)
           (mul_nonneg _ _ (mul_nonneg _ _ left bottom) (All-head P ll (lr ∷ hr ∷ hl ∷ []) above))
           (mul_nonneg _ _ (mul_nonneg _ _ right bottom) (All-head P lr (hr ∷ hl ∷ []) a1))

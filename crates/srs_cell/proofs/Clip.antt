@@ -195,7 +195,7 @@ pub part_in_common : (g : LinearForm) (hs : List LinearForm) (u n : Point) → p
 part_in_common g hs u n gu gn iu in' = (
   value-mix (value g u) (neg_ℤ (value g n)) g n u ∙ cancel (value g u) (value g n),
   record {
-    deep = deep_by (value g u) (value g n) n.d u.d _ (mix-d (value g u) (neg_ℤ (value g n)) n u) gu gn in'.deep iu.deep;
+    positive = deep_by (value g u) (value g n) n.d u.d _ (mix-d (value g u) (neg_ℤ (value g n)) n u) gu gn in'.positive iu.positive;
     each = λ k h lt.
         let f = get_or hs k h in
         nonneg_by _ _ (value-mix (value g u) (neg_ℤ (value g n)) f n u) (sum_nonneg (value g u) (value g n) (value f n) (value f u) gu gn (in'.each k h lt) (iu.each k h lt));
@@ -233,7 +233,7 @@ clip_whole hs cs us ns e h g hull cover us_in ns_in gu gn e_good h_good xd yd s 
     let fw : pos 0 ≤ℤ value f w =
     by_lt_z (pos 0) (value h (meet e g))
     (λ s_pos. between e h g f w s_pos c.0 (e_good w c.1) (h_good w c.1) fx fy)
-    (λ s_low. at_one e h g f w (both _ s s_low) xd yd c.0 (e_good w c.1) (h_good w c.1) c.1.deep fx) in
+    (λ s_low. at_one e h g f w (both _ s s_low) xd yd c.0 (e_good w c.1) (h_good w c.1) c.1.positive fx) in
     nonneg_by _ _ (turned (value g u) (value f n) (value g n) (value f u) _ (value-mix (value g u) (neg_ℤ (value g n)) f n u)) fw in
     lifted_speaks hs cs us ns f g hull cover (lift f g us ns gu gn fu (λ i d lt. joined (get_or ns i d) (gn i d lt) (ns_in i d lt))) z z_in gz
   where

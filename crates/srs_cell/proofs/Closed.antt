@@ -92,7 +92,7 @@ closed_near R z p z_in p_in near =
 -- the points of the closed halves of a cell are those of the box and the closed halves
 pub closed_boxed : (R : Area) (z : Point) → IsInClosed R z → IsNear z → IsInHalves (boxed R) z
 closed_boxed R z z_in near = record {
-  deep = deeper z.d z_in.is_point;
+  positive = deeper z.d z_in.is_point;
   each = boxed_all (λ h. pos 0 ≤ℤ value h z) R (near_in_box z near) (All-from_recursion (λ h. pos 0 ≤ℤ value h.form z) R z_in.halves);
 }
   where

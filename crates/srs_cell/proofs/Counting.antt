@@ -7,28 +7,28 @@ use Rattle.srs_num.specs.Points.{LinearForm, Point, value, opposite}
 use Rattle.srs_num.proofs.Linear.{linear}
 use Rattle.srs_num.proofs.Identities.{value-opposite}
 use Rattle.srs_cell.specs.Hull.{IsAbove, IsBelow}
-use Rattle.srs_cell.specs.Tallies.{Counts, IsTally}
+use Rattle.srs_cell.specs.Tallies.{TellsSome, IsTally}
 use Rattle.srs_cell.specs.declared.tallies.Tally.{Tally}
 
 -- ---- one count
-counts_none : (P : Point → Type 0) → Counts P [] 0
+counts_none : (P : Point → Type 0) → TellsSome P [] 0
 counts_none P = record { none = λ e. All-nil (λ c. P c → ⊥); some = λ h. absurd (omega (arith, h)); few = omega arith }
 
-counts_hit : (P : Point → Type 0) (cs : List Point) (n : ℕ) (c : Point) → P c → Counts P cs n → Counts P (cs ++ c ∷ []) (n + 1)
+counts_hit : (P : Point → Type 0) (cs : List Point) (n : ℕ) (c : Point) → P c → TellsSome P cs n → TellsSome P (cs ++ c ∷ []) (n + 1)
 counts_hit P cs n c p k = record {
   none = λ e. absurd (omega (arith, e));
   some = λ h. (c, Contains-push cs c, p);
   few = let few = k.few in omega (arith, length-append cs (c ∷ []));
 }
 
-counts_miss : (P : Point → Type 0) (cs : List Point) (n : ℕ) (c : Point) → (P c → ⊥) → Counts P cs n → Counts P (cs ++ c ∷ []) n
+counts_miss : (P : Point → Type 0) (cs : List Point) (n : ℕ) (c : Point) → (P c → ⊥) → TellsSome P cs n → TellsSome P (cs ++ c ∷ []) n
 counts_miss P cs n c p k = record {
   none = λ e. All-push (λ c. P c → ⊥) cs c (k.none e) p;
   some = λ h. let s = k.some h in (s.0, Contains-append_left cs (c ∷ []) s.0 s.1, s.2);
   few = let few = k.few in omega (arith, length-append cs (c ∷ []));
 }
 
-counts_same : (P Q : Point → Type 0) → ((c : Point) → P c → Q c) → ((c : Point) → Q c → P c) → (cs : List Point) (n : ℕ) → Counts P cs n → Counts Q cs n
+counts_same : (P Q : Point → Type 0) → ((c : Point) → P c → Q c) → ((c : Point) → Q c → P c) → (cs : List Point) (n : ℕ) → TellsSome P cs n → TellsSome Q cs n
 counts_same P Q f g cs n k = record {
   none = λ e. All-weaker (λ c. P c → ⊥) (λ c. Q c → ⊥) (λ c off q. off (g c q)) cs (k.none e);
   some = λ h. let s = k.some h in (s.0, s.1, f s.0 s.2);

@@ -13,7 +13,7 @@ use Rattle.srs_cell.proofs.Boxed.{IsBoxed, boxed_end, boxed_end_opposite}
 in_turned : (hs : List LinearForm) (g : LinearForm) (z : Point) → IsInHalves (g ∷ hs) z → IsInHalves (hs ++ g ∷ []) z
 in_turned hs g z i =
     let P : LinearForm → Type 0 = λ h. pos 0 ≤ℤ value h z in
-    in_more hs g z (record { deep = i.deep; each = All-tail P g hs i.each }) (All-head P g hs i.each)
+    in_more hs g z (record { positive = i.positive; each = All-tail P g hs i.each }) (All-head P g hs i.each)
 
 -- all corners are kept
 pub whole_left : (hs : List LinearForm) (cs : List Point) (g : LinearForm) → IsHull hs cs → IsAbove g cs → IsHull (hs ++ g ∷ []) cs
@@ -38,7 +38,7 @@ reordered hs g us x y hull = record {
       let a = All-pop P ((us ++ x ∷ []) ++ y ∷ []) (us ++ x ∷ []) (Some y) refl above in
       let b = All-pop P (us ++ x ∷ []) us (Some x) refl a.0 in
       hull.whole f (All-cons P x (y ∷ us) b.1 (All-cons P y us a.1 b.0)) z
-      (record { deep = z_in.deep; each = All-cons (λ h. pos 0 ≤ℤ value h z) g hs (in_last hs g z z_in) (in_front hs g z z_in).each });
+      (record { positive = z_in.positive; each = All-cons (λ h. pos 0 ≤ℤ value h z) g hs (in_last hs g z z_in) (in_front hs g z z_in).each });
 }
 
 -- some corners are kept, and some are not
@@ -62,8 +62,8 @@ clip_part hs cs (u ∷ us) (n ∷ ns) g hull cover ui ni gu gn box sized few no_
     let u_in = All-head (IsInHalves hs) u us ui in
     let n_in = All-head (IsInHalves hs) n ns ni in
     record {
-      first = boxed_end hs g u n box u_up n_low u_in.deep n_in.deep;
-      second = boxed_end_opposite hs g u n box u_up n_low u_in.deep n_in.deep;
+      first = boxed_end hs g u n box u_up n_low u_in.positive n_in.positive;
+      second = boxed_end_opposite hs g u n box u_up n_low u_in.positive n_in.positive;
       ends = λ x y x_end y_end.
           let joined : IsHull (hs ++ g ∷ []) (((u ∷ us) ++ meet x_end.half g ∷ []) ++ meet y_end.half (opposite g) ∷ []) =
           reordered hs g (u ∷ us) _ _

@@ -136,13 +136,13 @@ near f c s up =
 -- where each corner has g below 0, so has each point
 pub all_below : (hs : List LinearForm) (cs : List Point) (g : LinearForm) → IsHull hs cs → All (λ c. value g c <ℤ pos 0) cs → (z : Point) → IsInHalves hs z → value g z <ℤ pos 0
 all_below hs cs g hull below z z_in =
-    let deep : IsAbove depth cs = λ i d lt. low_depth _ _ (value-depth (get_or cs i d)) (hull.inside i d lt).deep in
+    let deep : IsAbove depth cs = λ i d lt. low_depth _ _ (value-depth (get_or cs i d)) (hull.inside i d lt).positive in
     let most = value depth (sum_of cs) in
     let f = combine (neg_ℤ most) g (negsuc 0) depth in
     let good : IsAbove f cs = λ i d lt.
     let c = get_or cs i d in
     off most _ _ _ (value-combine (neg_ℤ most) (negsuc 0) g depth c) (below i d lt) (sum_above depth cs deep) (each_below depth cs deep i d lt) in
-    last most _ _ _ _ (value-combine (neg_ℤ most) (negsuc 0) g depth z) (hull.whole f good z z_in) (value-depth z) z_in.deep (sum_above depth cs deep)
+    last most _ _ _ _ (value-combine (neg_ℤ most) (negsuc 0) g depth z) (hull.whole f good z z_in) (value-depth z) z_in.positive (sum_above depth cs deep)
   where
     low_depth : (a b : ℤ) → a ≡ b → pos 0 <ℤ b → pos 0 ≤ℤ a
     low_depth a b e h = omega (arith, linear)

@@ -31,7 +31,7 @@ value_near m w c h near a b =
         let s : IsWithin (n + n) (p *ℤ w.a +ℤ q *ℤ w.b) =
         within_sum (p *ℤ w.a) (q *ℤ w.b) n n (within_product p w.a (4 * d) m (coordinate d p p1 p2) a) (within_product q w.b (4 * d) m (coordinate d q q1 q2) b) in
         let t = bounds m d (p *ℤ w.a +ℤ q *ℤ w.b) s in
-        record { depth = h; low = t.0; high = t.1 }
+        record { positive = h; low = t.0; high = t.1 }
     by_sign p q (negsuc d) h p1 p2 q1 q2 = absurd (omega (arith, ints))
 
 -- the value of a pair at one of the corners

@@ -24,7 +24,7 @@ use Rattle.srs_cell.proofs.Extremes.{low_bound, attained_core}
 -- a sum of corners is in the halves with their edges
 pub least_in_halves : (R : Area) (cs : List Point) → All (IsInHalves (boxed R)) cs → (f : LinearForm) (c total : Point) → IsLeastSum f cs cs c total → IsInHalves (boxed R) total
 least_in_halves R cs inside f c total l = record {
-  deep = deeper total.d l.is_point;
+  positive = deeper total.d l.is_point;
   each = λ i d lt. l.above (get_or (boxed R) i d) (λ j e lt'. (inside j e lt').each i d lt);
 }
   where
@@ -223,9 +223,9 @@ pub are_short : (f : LinearForm) (c e : Point) (n d m g : ℤ) → IsFormSized f
     → n ≡ value f c → d ≡ c.d → m ≡ value f e → g ≡ e.d → AreShort n d m g
 are_short f c e n d m g h k l a b t w = record {
   first_value = rw a (value_short f c h k);
-  first_depth = rw b k.d_range;
+  first_denominator = rw b k.d_range;
   second_value = rw t (value_short f e h l);
-  second_depth = rw w l.d_range;
+  second_denominator = rw w l.d_range;
 }
 
 pub bound_sized : (n d : ℤ) (b : Bool) (c : Point) → IsWithin (2 ^ 117) n → d ≡ c.d → IsPointWithin (2 ^ 77) c → IsBoundSized (record { num = n; den = d; attained = b })

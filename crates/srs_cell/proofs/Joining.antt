@@ -35,7 +35,7 @@ same_sign : (f : LinearForm) (c e : Point) → IsSamePoint c e → pos 0 ≤ℤ 
 unfolding value
 same_sign f c e s h =
     let w = weighed f.a f.b f.c c.p c.q c.d e.p e.q e.d s.x s.y in
-    nonneg_from c.d (value f e) s.deep (subst (λ (z : ℤ). pos 0 ≤ℤ z) w (mul_nonneg e.d (value f c) (less e.d s.deep_too) h))
+    nonneg_from c.d (value f e) s.positive (subst (λ (z : ℤ). pos 0 ≤ℤ z) w (mul_nonneg e.d (value f c) (less e.d s.positive_too) h))
   where
     less : (d : ℤ) → pos 0 <ℤ d → pos 0 ≤ℤ d
     less d h = omega (arith, linear)

@@ -159,8 +159,8 @@ no_test P e off p = false≢true (sym off ∙ e p)
 pub sized_among : (cs : List Point) (c : Point) → All (IsPointWithin (2 ^ 77)) cs → Contains cs c → IsPointWithin (2 ^ 77) c
 sized_among cs c sized among = All-contains (IsPointWithin (2 ^ 77)) cs c sized among
 
-pub depth_fits : (d : ℤ) (c : Point) → d ≡ c.d → IsPointWithin (2 ^ 77) c → FitsSigned w128 d
-depth_fits d c e sized = rw e (small_fits w128 c.d (2 ^ 77) sized.d_range (lit< tt))
+pub denominator_fits : (d : ℤ) (c : Point) → d ≡ c.d → IsPointWithin (2 ^ 77) c → FitsSigned w128 d
+denominator_fits d c e sized = rw e (small_fits w128 c.d (2 ^ 77) sized.d_range (lit< tt))
 
 pub not_up_to : (a b : ℤ) → (a ≤ℤ b → ⊥) → b <ℤ a
 not_up_to a b n = by_lt_z b a (λ h. h) (λ h. absurd (n h))

@@ -35,7 +35,7 @@ pub turned : (n : ℤ) → pos 0 -ℤ n ≡ neg_ℤ n
 turned n = omega (arith, linear)
 
 pub turned_ratio : (m : ℕ) (n d : ℤ) → IsRatioWithin m n d → IsRatioWithin m (neg_ℤ n) d
-turned_ratio m n d r = record { depth = r.depth; low = low _ _ r.high; high = high _ _ r.low }
+turned_ratio m n d r = record { positive = r.positive; low = low _ _ r.high; high = high _ _ r.low }
   where
     low : (x n : ℤ) → n ≤ℤ x → neg_ℤ x ≤ℤ neg_ℤ n
     low x n h = omega (arith, linear)
@@ -45,10 +45,10 @@ turned_ratio m n d r = record { depth = r.depth; low = low _ _ r.high; high = hi
 
 module _ (m : ℕ) (n d : ℤ) (near : IsRatioWithin m n d) where
   pub floor_range : (k : ℤ) → IsFloor n d k → IsWithin m k
-  floor_range k f = floor_within m n d k near.depth f near.low near.high
+  floor_range k f = floor_within m n d k near.positive f near.low near.high
 
   pub quotient_floor : (k : ℤ) → k ≡ int_div_euclid n d → IsFloor n d k
-  quotient_floor k e = subst (IsFloor n d) (sym e) (floor_is n d near.depth)
+  quotient_floor k e = subst (IsFloor n d) (sym e) (floor_is n d near.positive)
 
   pub quotient_range : (k : ℤ) → k ≡ int_div_euclid n d → IsWithin m k
   quotient_range k e = floor_range k (quotient_floor k e)
@@ -59,13 +59,13 @@ module _ (m : ℕ) (n d : ℤ) (near : IsRatioWithin m n d) where
     ahead = f;
     back = g;
     ahead_range = floor_range k f;
-    back_range = floor_within m (neg_ℤ n) d b near.depth g (turned_ratio m n d near).low (turned_ratio m n d near).high;
+    back_range = floor_within m (neg_ℤ n) d b near.positive g (turned_ratio m n d near).low (turned_ratio m n d near).high;
   }
 
   pub whole_back : (k : ℤ) → IsFloor n d k → n ≤ℤ (k *ℤ d) → IsFloor (neg_ℤ n) d (pos 0 -ℤ k)
   whole_back k f h =
       let e = ring (k ∷ d ∷ []) ((lit (pos 0) ⊖ v 0) ⊗ v 1) (minus (v 0 ⊗ v 1)) tt in
-      record { not_above = under _ _ _ e h; greatest = over _ _ _ _ e f.not_above near.depth }
+      record { not_above = under _ _ _ e h; greatest = over _ _ _ _ e f.not_above near.positive }
     where
       under : (s x n : ℤ) → s ≡ neg_ℤ x → n ≤ℤ x → s ≤ℤ neg_ℤ n
       under s x n e h = omega (arith, linear)
@@ -87,7 +87,7 @@ module _ (m : ℕ) (n d : ℤ) (near : IsRatioWithin m n d) where
   pub lesser_divided : (least k : ℤ) → IsFloor n d k → n <ℤ (least *ℤ d) → IsLesserFloor m n d least k
   lesser_divided least k f h = record {
     not_above = f.not_above;
-    not_more = by_lt_z least k (λ l. absurd (clash _ _ _ (mul_mono least k d (at_least d near.depth) (at_most least k l)) f.not_above h)) (λ l. l);
+    not_more = by_lt_z least k (λ l. absurd (clash _ _ _ (mul_mono least k d (at_least d near.positive) (at_most least k l)) f.not_above h)) (λ l. l);
     taken = inr f.greatest;
     range = floor_range k f;
   }

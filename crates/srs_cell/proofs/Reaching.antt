@@ -34,7 +34,7 @@ step_up k d = ring (k ∷ d ∷ []) ((v 0 ⊕ lit (pos 1)) ⊗ v 1) (v 0 ⊗ v 1
 -- a point of the halves of R and of the box
 pub from_boxed : (R : Area) (z : Point) → IsInHalves (boxed R) z → IsInClosed R z
 from_boxed R z i = record {
-  is_point = deep _ i.deep;
+  is_point = deep _ i.positive;
   halves = recursion_from_All (λ h. pos 0 ≤ℤ value h.form z) R (boxed_halves (λ h. pos 0 ≤ℤ value h z) R i.each);
 }
   where

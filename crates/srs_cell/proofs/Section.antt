@@ -13,10 +13,10 @@ use Rattle.srs_cell.proofs.Clip.{clip_whole, part_in_common}
 
 -- a point of the halves and one more
 pub in_more : (hs : List LinearForm) (h : LinearForm) (z : Point) → IsInHalves hs z → pos 0 ≤ℤ value h z → IsInHalves (hs ++ h ∷ []) z
-in_more hs h z i k = record { deep = i.deep; each = All-push (λ h. pos 0 ≤ℤ value h z) hs h i.each k }
+in_more hs h z i k = record { positive = i.positive; each = All-push (λ h. pos 0 ≤ℤ value h z) hs h i.each k }
 
 pub in_front : (hs : List LinearForm) (h : LinearForm) (z : Point) → IsInHalves (hs ++ h ∷ []) z → IsInHalves hs z
-in_front hs h z i = record { deep = i.deep; each = (All-pop (λ h. pos 0 ≤ℤ value h z) (hs ++ h ∷ []) hs (Some h) refl i.each).0 }
+in_front hs h z i = record { positive = i.positive; each = (All-pop (λ h. pos 0 ≤ℤ value h z) (hs ++ h ∷ []) hs (Some h) refl i.each).0 }
 
 pub in_last : (hs : List LinearForm) (h : LinearForm) (z : Point) → IsInHalves (hs ++ h ∷ []) z → pos 0 ≤ℤ value h z
 in_last hs h z i = (All-pop (λ h. pos 0 ≤ℤ value h z) (hs ++ h ∷ []) hs (Some h) refl i.each).1
@@ -24,22 +24,22 @@ in_last hs h z i = (All-pop (λ h. pos 0 ≤ℤ value h z) (hs ++ h ∷ []) hs (
 -- the end so far stays
 pub end_keep : (g : LinearForm) (hs : List LinearForm) (e h : LinearForm) → IsEnd g hs e → (pos 0 <ℤ (meet h g).d → pos 0 ≤ℤ value h (meet e g)) → IsEnd g (hs ++ h ∷ []) e
 end_keep g hs e h i k = record {
-  kind = i.kind;
-  good = All-push (λ h. pos 0 <ℤ (meet h g).d → pos 0 ≤ℤ value h (meet e g)) hs h i.good k;
-  mine = λ z z_in. i.mine z (in_front hs h z z_in);
+  turns = i.turns;
+  nearest = All-push (λ h. pos 0 <ℤ (meet h g).d → pos 0 ≤ℤ value h (meet e g)) hs h i.nearest k;
+  holds = λ z z_in. i.holds z (in_front hs h z z_in);
 }
 
 -- a half that cuts the end off has the new one
 pub end_swap : (g : LinearForm) (hs : List LinearForm) (e h : LinearForm) → IsEnd g hs e → pos 0 <ℤ (meet h g).d → value h (meet e g) <ℤ pos 0 → IsEnd g (hs ++ h ∷ []) h
 end_swap g hs e h i k low = record {
-  kind = k;
-  good = All-push Good hs h
+  turns = k;
+  nearest = All-push Good hs h
       (All-weaker (λ k. pos 0 <ℤ (meet k g).d → pos 0 ≤ℤ value k (meet e g)) Good (λ j old dj.
-      nonneg_from (meet e g).d (value j (meet h g)) i.kind
+      nonneg_from (meet e g).d (value j (meet h g)) i.turns
       (sum_by (meet j g).d (value e (meet h g)) (meet h g).d (value j (meet e g)) _ (along j e h g) dj
-      (turned_up _ _ (value-meet_turned e h g) low) k (old dj))) hs i.good)
+      (turned_up _ _ (value-meet_turned e h g) low) k (old dj))) hs i.nearest)
       (λ _. zero_good _ (value-meet_first h g));
-  mine = in_last hs h;
+  holds = in_last hs h;
 }
   where
     Good : LinearForm → Type 0
@@ -60,11 +60,11 @@ end_swap g hs e h i k low = record {
 -- the first half that bounds the line that way
 pub end_first : (g : LinearForm) (hs : List LinearForm) (h : LinearForm) → All (λ h. (meet h g).d ≤ℤ pos 0) hs → pos 0 <ℤ (meet h g).d → IsEnd g (hs ++ h ∷ []) h
 end_first g hs h none k = record {
-  kind = k;
-  good = All-push Good hs h
+  turns = k;
+  nearest = All-push Good hs h
       (All-weaker (λ h. (meet h g).d ≤ℤ pos 0) Good (λ j low up. absurd (clash _ low up)) hs none)
       (λ _. zero_good _ (value-meet_first h g));
-  mine = in_last hs h;
+  holds = in_last hs h;
 }
   where
     Good : LinearForm → Type 0
@@ -78,12 +78,12 @@ end_first g hs h none k = record {
 
 -- with a point w of the halves on the line, the end is in each half
 pub end_inside : (g : LinearForm) (hs : List LinearForm) (e : LinearForm) (w : Point) → IsEnd g hs e → IsInHalves hs w → value g w ≡ pos 0 → IsInHalves hs (meet e g)
-end_inside g hs e w i iw on = let ew = i.mine w iw in record {
-  deep = i.kind;
+end_inside g hs e w i iw on = let ew = i.holds w iw in record {
+  positive = i.turns;
   each = λ n d lt.
       let h = get_or hs n d in
       by_lt_z (pos 0) (meet h g).d
-      (λ up. i.good n d lt up)
+      (λ up. i.nearest n d lt up)
       (λ down. by_lt_z (meet h g).d (pos 0)
       (λ below. other_way h (iw.each n d lt) below)
       (λ at_zero. level h (iw.each n d lt) (both _ down at_zero)));
@@ -102,9 +102,9 @@ end_inside g hs e w i iw on = let ew = i.mine w iw in record {
     other_way : (h : LinearForm) → pos 0 ≤ℤ value h w → (meet h g).d <ℤ pos 0 → pos 0 ≤ℤ value h (meet e g)
     other_way h hw below =
         let c = cramer h e g depth w in
-        nonneg_from (value depth w) (value h (meet e g)) (deep_by _ _ (value-depth w) iw.deep)
+        nonneg_from (value depth w) (value h (meet e g)) (deep_by _ _ (value-depth w) iw.positive)
         (from_cramer (value h (meet e g)) (value depth w) (value h w) (value depth (meet e g)) (value e w) (value depth (meet g h)) (value g w) (value depth (meet h e)) c
-        on hw (i.mine w iw) (deep_by _ _ (value-depth (meet e g)) i.kind) (turned_deep _ _ _ (value-depth (meet g h)) (meet-d_turned g h) below))
+        on hw (i.holds w iw) (deep_by _ _ (value-depth (meet e g)) i.turns) (turned_deep _ _ _ (value-depth (meet g h)) (meet-d_turned g h) below))
       where
         from_cramer : (s dw hw xd ew yd gw o : ℤ) → s *ℤ dw ≡ hw *ℤ xd +ℤ ew *ℤ yd +ℤ gw *ℤ o → gw ≡ pos 0
             → pos 0 ≤ℤ hw → pos 0 ≤ℤ ew → pos 0 <ℤ xd → pos 0 <ℤ yd → pos 0 ≤ℤ (dw *ℤ s)
@@ -118,8 +118,8 @@ end_inside g hs e w i iw on = let ew = i.mine w iw in record {
     -- h runs along the line
     level : (h : LinearForm) → pos 0 ≤ℤ value h w → (meet h g).d ≡ pos 0 → pos 0 ≤ℤ value h (meet e g)
     level h hw flat =
-        nonneg_from w.d (value h (meet e g)) iw.deep
-        (from_parallel w.d (value h (meet e g)) (meet e g).d (value h w) (value e w) (meet h g).d (value g w) _ (value-meet_parallel e g h w) on flat hw i.kind)
+        nonneg_from w.d (value h (meet e g)) iw.positive
+        (from_parallel w.d (value h (meet e g)) (meet e g).d (value h w) (value e w) (meet h g).d (value g w) _ (value-meet_parallel e g h w) on flat hw i.turns)
       where
         from_parallel : (dw hx xd hw ew f gw o : ℤ) → dw *ℤ hx ≡ xd *ℤ hw -ℤ ew *ℤ f +ℤ gw *ℤ o → gw ≡ pos 0 → f ≡ pos 0 → pos 0 ≤ℤ hw → pos 0 <ℤ xd → pos 0 ≤ℤ (dw *ℤ hx)
         from_parallel dw hx xd hw ew f gw o e z y h k =
@@ -148,10 +148,10 @@ clip_is_hull hs cs us ns e h g u n hull cover us_in ns_in gu gn u_up u_in n_low 
           (All-cons (IsInHalves (g ∷ hs)) y us (with_line y y_in (nonneg_by_zero _ (value-meet_opposite g h g ∙ value-meet_first g h)))
           (λ i d lt. with_line (get_or us i d) (us_in i d lt) (gu i d lt)));
       whole = λ f above z z_in.
-          let old : IsInHalves hs z = record { deep = z_in.deep; each = All-tail (λ h. pos 0 ≤ℤ value h z) g hs z_in.each } in
+          let old : IsInHalves hs z = record { positive = z_in.positive; each = All-tail (λ h. pos 0 ≤ℤ value h z) g hs z_in.each } in
           let rest = All-tail (λ c. pos 0 ≤ℤ value f c) x (y ∷ us) above in
-          clip_whole hs cs us ns e h g hull cover us_in ns_in gu gn e_end.mine h_end.mine e_end.kind (deep_by _ _ (sym (meet-d_opposite h g)) h_end.kind)
-          (h_end.mine x x_in)
+          clip_whole hs cs us ns e h g hull cover us_in ns_in gu gn e_end.holds h_end.holds e_end.turns (deep_by _ _ (sym (meet-d_opposite h g)) h_end.turns)
+          (h_end.holds x x_in)
           f (All-tail (λ c. pos 0 ≤ℤ value f c) y us rest)
           (All-head (λ c. pos 0 ≤ℤ value f c) x (y ∷ us) above)
           (nonneg_same _ _ (sym (value-meet_opposite f h g)) (All-head (λ c. pos 0 ≤ℤ value f c) y us rest))
@@ -159,7 +159,7 @@ clip_is_hull hs cs us ns e h g u n hull cover us_in ns_in gu gn u_up u_in n_low 
     }
   where
     with_line : (z : Point) → IsInHalves hs z → pos 0 ≤ℤ value g z → IsInHalves (g ∷ hs) z
-    with_line z i k = record { deep = i.deep; each = All-cons (λ h. pos 0 ≤ℤ value h z) g hs k i.each }
+    with_line z i k = record { positive = i.positive; each = All-cons (λ h. pos 0 ≤ℤ value h z) g hs k i.each }
 
     nonneg_by_zero : (a : ℤ) → a ≡ pos 0 → pos 0 ≤ℤ a
     nonneg_by_zero a e = omega (arith, linear)

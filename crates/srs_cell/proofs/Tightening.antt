@@ -16,9 +16,9 @@ end_same g hs ks None f b s = f (λ h. (meet h g).d ≤ℤ pos 0) s
 end_same g hs ks (Some c) f b s = record {
   half = s.half;
   is_end = record {
-    kind = s.is_end.kind;
-    good = f (λ h. pos 0 <ℤ (meet h g).d → pos 0 ≤ℤ value h (meet s.half g)) s.is_end.good;
-    mine = λ z i. s.is_end.mine z (record { deep = i.deep; each = b (λ h. pos 0 ≤ℤ value h z) i.each });
+    turns = s.is_end.turns;
+    nearest = f (λ h. pos 0 <ℤ (meet h g).d → pos 0 ≤ℤ value h (meet s.half g)) s.is_end.nearest;
+    holds = λ z i. s.is_end.holds z (record { positive = i.positive; each = b (λ h. pos 0 ≤ℤ value h z) i.each });
   };
   crossing = s.crossing;
   sized = s.sized;

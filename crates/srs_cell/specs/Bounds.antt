@@ -59,9 +59,9 @@ pub record IsLeastSum (f : LinearForm) (cs es : List Point) (c total : Point) : 
   pub above : (k : LinearForm) → IsAbove k cs → pos 0 ≤ℤ value k total
   pub parts : (k : LinearForm) → IsAbove k cs → All (λ e. (value f e *ℤ c.d) ≤ℤ (value f c *ℤ e.d) → value k e ≤ℤ value k total) es
 
--- how large the values n and m and the depths d and e are of two corners whose numbers are within 2^38
+-- how large the values n and m and the denominators d and e are of two corners whose numbers are within 2^38
 pub record AreShort (n d m e : ℤ) : Type 0 where
   pub first_value : IsWithin (2 ^ 79) n
-  pub first_depth : IsWithin (2 ^ 38) d
+  pub first_denominator : IsWithin (2 ^ 38) d
   pub second_value : IsWithin (2 ^ 79) m
-  pub second_depth : IsWithin (2 ^ 38) e
+  pub second_denominator : IsWithin (2 ^ 38) e

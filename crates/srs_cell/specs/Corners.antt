@@ -2,6 +2,7 @@
 use Rattle.std.specs.Prelude.{◌≤◌, ◌+◌, ◌^◌, ℤ, List, [], ◌∷◌, ◌++◌, map, All, length, pos, negsuc}
 use Rattle.srs_num.specs.Points.{Point, LinearForm, IsNear, IsPointWithin}
 use Rattle.srs_plane.specs.Regions.{Area, IsIn}
+use Rattle.srs_plane.specs.declared.regions.TheConstants.{MOST_HALVES}
 use Rattle.srs_cell.specs.Hull.{IsHull}
 
 -- one side of the box |x| <= 4, |y| <= 4: a*x + b*y + 4 >= 0
@@ -27,5 +28,5 @@ pub record AreCorners (R : Area) (cs : List Point) : Type 0 where
 pub record IsCell (R : Area) (cs : List Point) (sample : Point) : Type 0 where
   pub corners : AreCorners R cs
   pub inside : IsIn R sample
-  pub count : length R ≤ 80
+  pub count : length R ≤ MOST_HALVES
   pub near : (r : Point) → IsIn R r → IsNear r

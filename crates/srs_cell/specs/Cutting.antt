@@ -9,9 +9,9 @@ use Rattle.srs_cell.specs.declared.corners.Remains.TheVariants.{Whole, Nothing, 
 
 -- the half e has the first end of the line of g within those of the halves that bound it that way
 pub record IsEnd (g : LinearForm) (hs : List LinearForm) (e : LinearForm) : Type 0 where
-  pub kind : pos 0 <ℤ (meet e g).d
-  pub good : All (λ h. pos 0 <ℤ (meet h g).d → pos 0 ≤ℤ value h (meet e g)) hs
-  pub mine : (z : Point) → IsInHalves hs z → pos 0 ≤ℤ value e z
+  pub turns : pos 0 <ℤ (meet e g).d
+  pub nearest : All (λ h. pos 0 <ℤ (meet h g).d → pos 0 ≤ℤ value h (meet e g)) hs
+  pub holds : (z : Point) → IsInHalves hs z → pos 0 ≤ℤ value e z
 
 -- the point c is the first end of the line of g within those of the halves that bound it that way
 pub record IsEndAt (g : LinearForm) (hs : List LinearForm) (c : Point) : Type 0 where

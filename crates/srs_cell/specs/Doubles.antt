@@ -6,8 +6,8 @@ use Rattle.srs_cell.specs.Hull.{IsInHalves, IsAbove}
 
 -- both coordinates of c and of e are the same numbers
 pub record IsSamePoint (c e : Point) : Type 0 where
-  pub deep : pos 0 <ℤ c.d
-  pub deep_too : pos 0 <ℤ e.d
+  pub positive : pos 0 <ℤ c.d
+  pub positive_too : pos 0 <ℤ e.d
   pub x : c.p *ℤ e.d ≡ e.p *ℤ c.d
   pub y : c.q *ℤ e.d ≡ e.q *ℤ c.d
 

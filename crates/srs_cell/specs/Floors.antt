@@ -38,7 +38,7 @@ pub record AreFloorsBelow (m : ℕ) (f : LinearForm) (cs es : List Point) (floor
 
 -- n / d is at most m in magnitude
 pub record IsRatioWithin (m : ℕ) (n d : ℤ) : Type 0 where
-  pub depth : pos 1 ≤ℤ d
+  pub positive : pos 1 ≤ℤ d
   pub low : neg_ℤ (pos m *ℤ d) ≤ℤ n
   pub high : n ≤ℤ (pos m *ℤ d)
 

@@ -4,7 +4,7 @@ use Rattle.srs_num.specs.Points.{Point, LinearForm, value}
 
 -- z has d >= 1, and each of the forms is at least 0 there
 pub record IsInHalves (hs : List LinearForm) (z : Point) : Type 0 where
-  pub deep : pos 0 <ℤ z.d
+  pub positive : pos 0 <ℤ z.d
   pub each : All (λ h. pos 0 ≤ℤ value h z) hs
 
 -- the form is at least 0 at each of the points

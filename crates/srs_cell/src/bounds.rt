@@ -40,12 +40,12 @@ impl Cell {
         let least = least_corner(f, self.corners());
         Quotient {
             num: value_at(f, &least),
-            den: depth(&least),
+            den: denominator(&least),
         }
     }
 
     /// The infimum of the form over the points of the cell, and whether a point takes it. It takes no memory: it goes
-    /// over the at most 84 corners twice and over the at most 80 halves once. All points of a cell are near, which bounds
+    /// over the at most 84 corners twice and over the halves once. All points of a cell are near, which bounds
     /// the value of a form of bounded numbers.
     pub fn low(&self, f: &Form) -> Bound
         ensures low { IsLow self.now f.now result }
@@ -94,7 +94,7 @@ impl Cell {
 }
 
 // The denominator of a corner.
-pub(crate) fn depth(corner: &Corner) -> i128
+pub(crate) fn denominator(corner: &Corner) -> i128
     ensures { result ≡ corner.now.d }
 {
     let (_, _, d) = corner.parts();
@@ -107,7 +107,7 @@ fn is_up_to(form: &Form, corner: &Corner, most: i64) -> bool
     requires most { IsWithin (2 ^ 40) most }
     ensures { IsTrue result ↔ (value form.now corner.now ≤ℤ (most *ℤ corner.now.d)) }
 {
-    value_at(form, corner) <= most as i128 * depth(corner)
+    value_at(form, corner) <= most as i128 * denominator(corner)
 }
 
 // The first of the corners at which the form isn't above the whole number.
@@ -150,7 +150,7 @@ fn is_less(n: i128, d: i128, m: i128, e: i128, short: bool) -> bool
     is_less_quotient(n, d, m, e)
 }
 
-// Whether n * e is less than m * d, for values and depths of corners whose numbers are within 2^38.
+// Whether n * e is less than m * d, for values and denominators of corners whose numbers are within 2^38.
 #[inline(always)]
 fn is_less_short(n: i128, d: i128, m: i128, e: i128) -> bool
     requires { AreShort n d m e }
@@ -209,15 +209,15 @@ fn least_of(form: &Form, corners: &[Corner], short: bool) -> Corner
     let _ = form.parts();
     let mut least = corners[0];
     let mut num = value_of(form, &least, short);
-    let mut den = depth(&least);
+    let mut den = denominator(&least);
     for i in 1..corners.len() {
         let corner = corners[i];
         let value = value_of(form, &corner, short);
-        let depth = depth(&corner);
-        if is_less(value, depth, num, den, short) {
+        let denominator = denominator(&corner);
+        if is_less(value, denominator, num, den, short) {
             least = corner;
             num = value;
-            den = depth;
+            den = denominator;
         }
     }
     least
@@ -245,14 +245,14 @@ fn sum_at(form: &Form, corners: &[Corner], short: bool, least: &Corner) -> Corne
     // The numbers of a form are at most 2^38 in magnitude.
     let _ = form.parts();
     let num = form.at_corner(least);
-    let den = depth(least);
+    let den = denominator(least);
     let mut total = *least;
     for corner in corners {
         if !is_less(
             num,
             den,
             value_of(form, corner, short),
-            depth(corner),
+            denominator(corner),
             short,
         ) {
             total = total.plus(corner);

@@ -96,7 +96,7 @@ pub(crate) fn inhabited(region: Region, corners: Vec<Corner>) -> Option<Cell>
     ensures cell { MatchOption result (HasPoint region → ⊥) (λ cell. cell ≡ region) }
     ensures point { IsSome result → HasPoint region }
 {
-    // A region has at most 80 halves, and its points are near.
+    // A region has at most `MOST_HALVES` halves, and its points are near.
     let _ = region.len();
     // Where some point is strictly inside an open edge, so is the sum of all corners.
     let sample = sum(&corners);

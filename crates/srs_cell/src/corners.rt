@@ -7,6 +7,7 @@ ghost use Rattle.srs_cell.specs.Hull.{IsInHalves, IsAbove, IsBelow, IsHull};
 ghost use Rattle.srs_cell.specs.Corners.{box, boxed, AreCorners};
 ghost use Rattle.srs_cell.specs.Cutting.{IsKept, IsLeft, IsSection};
 ghost use Rattle.srs_cell.specs.Tallies.{IsTally};
+ghost use Rattle.srs_plane.specs.declared.regions.TheConstants.{MOST_HALVES};
 
 use crate::doubles::{add_corner, join_corner};
 use crate::ends::{Section, side};
@@ -63,9 +64,7 @@ pub(crate) fn keep_above(
     requires short { IsTrue short → All (IsPointWithin (2 ^ 38)) corners.now }
     ensures { IfOk result (λ kept. IsKept line.now corners.now kept.items) }
 {
-    let Ok(mut kept) = Vec::with_capacity(alloc, room) else {
-        return Err(NoMemory);
-    };
+    let mut kept = Vec::with_capacity(alloc, room)?;
     for corner in corners {
         if value_of(line, corner, short) >= 0 {
             add_corner(&mut kept, *corner)?;
@@ -131,15 +130,12 @@ fn box_corners(alloc: Global) -> Result<Vec<Corner>, NoMemory>
 pub(crate) fn copied(alloc: Global, corners: &[Corner]) -> Result<Vec<Corner>, NoMemory>
     ensures { IfOk result (λ copy. copy.items ≡ corners.now) }
 {
-    match Vec::from_slice(alloc, corners) {
-        Ok(copy) => Ok(copy),
-        Err(_) => Err(NoMemory),
-    }
+    Ok(Vec::from_slice(alloc, corners)?)
 }
 
 // The corners of the region's halves, where open edges count as closed. `None`: these have no point.
 pub(crate) fn corners_of(alloc: Global, region: &Region) -> Result<Option<Vec<Corner>>, NoMemory>
-    ensures count { length region.now ≤ 80 }
+    ensures count { length region.now ≤ MOST_HALVES }
     ensures near { (r : Point) → IsIn region.now r → IsNear r }
     ensures found { IfOk result
         (λ found. MatchOption found ((z : Point) → IsInHalves (boxed region.now) z → ⊥) (λ corners. AreCorners region.now corners.items)) }
@@ -167,7 +163,7 @@ pub(crate) fn part_corners(
     section: &Section,
     tally: Tally,
 ) -> Result<Vec<Corner>, NoMemory>
-    requires few { length region.now ≤ 80 }
+    requires few { length region.now ≤ MOST_HALVES }
     requires corners { AreCorners region.now corners.now }
     requires section { IsSection (boxed region.now) section.now }
     requires tally { IsTally section.now.line corners.now tally }

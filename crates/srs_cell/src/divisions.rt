@@ -6,6 +6,7 @@ ghost use Rattle.srs_cell.specs.Corners.{boxed, IsCell};
 ghost use Rattle.srs_cell.specs.Cutting.{IsSection};
 ghost use Rattle.srs_cell.specs.Parts.{AreParts};
 ghost use Rattle.srs_cell.specs.Tallies.{IsTally};
+ghost use Rattle.srs_plane.specs.declared.regions.TheConstants.{MOST_HALVES};
 
 use crate::Cell;
 use crate::cells::inhabited;
@@ -29,12 +30,12 @@ pub enum Parts {
 }
 
 impl Cell {
-    /// Cuts the cell by the form, for a cell of fewer than 80 halves. A part may be a segment or a single point. An `Err` is
+    /// Cuts the cell by the form, for a cell of fewer than `MOST_HALVES` halves. A part may be a segment or a single point. An `Err` is
     /// want of memory: no part is given.
     // Where a side has no point, the answer is the other side's: so `AllGe` comes exactly where the form is at least 0 at
     // every point, and `AllLt` exactly where it is below 0 at every point, since `Both` has a point on each side.
     pub fn cut(&self, alloc: Global, h: &Form) -> Result<Parts, NoMemory>
-        requires { length self.now < 80 }
+        requires { length self.now < MOST_HALVES }
         ensures { IfOk result (AreParts self.now h.now) }
     {
         let tally = self.corners.tally(h);
@@ -57,7 +58,7 @@ fn cut_in_two(
     tally: Tally,
 ) -> Result<Parts, NoMemory>
     requires cell { (sample : Point) × IsCell region.now corners.now sample }
-    requires few { length region.now < 80 }
+    requires few { length region.now < MOST_HALVES }
     requires tally { IsTally h.now corners.now tally }
     requires below { 1 ≤ tally.below }
     requires not_below { 1 ≤ tally.above + tally.on }
@@ -93,7 +94,7 @@ fn part(
     tally: Tally,
 ) -> Result<Option<Cell>, NoMemory>
     requires cell { (sample : Point) × IsCell region.now corners.now sample }
-    requires few { length region.now < 80 }
+    requires few { length region.now < MOST_HALVES }
     requires line { section.now.line ≡ half.form }
     requires section { IsSection (boxed region.now) section.now }
     requires tally { IsTally half.form corners.now tally }

@@ -40,10 +40,8 @@ fn has_double(corners: &[Corner], line: &Form, other: &Corner) -> bool
 pub(crate) fn add_corner(corners: &mut Vec<Corner>, corner: Corner) -> Result<(), NoMemory>
     ensures { OnOk result (corners.new.items ≡ corners.old.items ++ corner ∷ []) }
 {
-    match corners.push(corner) {
-        Ok(()) => Ok(()),
-        Err(_) => Err(NoMemory),
-    }
+    corners.push(corner)?;
+    Ok(())
 }
 
 // Appends the corner of the line, unless one of the corners is seen to be the same point. It looks for that where

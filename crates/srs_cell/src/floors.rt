@@ -5,7 +5,7 @@ ghost use Rattle.srs_map.specs.Step.{IsNarrow};
 ghost use Rattle.srs_cell.specs.Tallies.{IsTally};
 ghost use Rattle.srs_cell.specs.Floors.{form_of, AreFloorsBelow, IsRatioWithin, AreFloorsOf, IsLesserFloor, IsLesser, AreLessened};
 
-use crate::bounds::depth;
+use crate::bounds::denominator;
 use crate::corners::copied;
 use crate::moves::step_form;
 use crate::tallies::{Tally, tally_of};
@@ -81,7 +81,7 @@ fn short_value(corner: &Corner, w: V2) -> i64
 }
 
 // The denominator of a corner, where 64 bits hold it.
-fn short_depth(corner: &Corner) -> i64
+fn short_denominator(corner: &Corner) -> i64
     requires { IsPointWithin (2 ^ 38) corner.now }
     ensures { result ≡ corner.now.d }
 {
@@ -99,10 +99,10 @@ fn short_floors(corners: &[Corner], w: V2) -> Floors
     ensures { AreFloorsBelow (2 ^ 23) (form_of w) corners.now corners.now result }
 {
     let first = &corners[0];
-    let mut floors = Floors::of(short_value(first, w), short_depth(first));
+    let mut floors = Floors::of(short_value(first, w), short_denominator(first));
     for i in 1..corners.len() {
         let corner = &corners[i];
-        floors = floors.lessened(short_value(corner, w), short_depth(corner));
+        floors = floors.lessened(short_value(corner, w), short_denominator(corner));
     }
     floors
 }
@@ -137,9 +137,9 @@ fn wide_floors(corners: &[Corner], w: V2) -> Floors
 {
     let form = step_form(w);
     let first = corners[0];
-    let mut floors = wide_floors_of(form.at_corner(&first), depth(&first));
+    let mut floors = wide_floors_of(form.at_corner(&first), denominator(&first));
     for corner in corners {
-        let here = wide_floors_of(form.at_corner(corner), depth(corner));
+        let here = wide_floors_of(form.at_corner(corner), denominator(corner));
         floors = Floors {
             ahead: lesser(floors.ahead, here.ahead),
             back: lesser(floors.back, here.back),

@@ -1,15 +1,17 @@
 // Where the step of the points of a cell leads.
 ghost use Rattle.std.specs.Prelude.{◌≡◌};
-ghost use Rattle.srs_map.specs.Step.{IsNarrow, minus};
+ghost use Rattle.srs_map.specs.Step.{IsNarrow};
 ghost use Rattle.srs_cell.specs.Floors.{form_of};
 ghost use Rattle.srs_cell.specs.Moves.{LeadsTo, LeadsBackTo, LinksTo, AreMoves};
 
 use crate::{Cell, Span};
+use srs_map::minus;
 use srs_num::{Form, V2};
 
 impl Cell {
     /// The second entries of the pairs to which both links of `w` lead, at the cell's points: each whole number of the span,
-    /// and no other. It is given for entries within 2^37. It takes no memory and goes over the corners once.
+    /// and no other. It is given for entries within `srs_map::MOST_ENTRY`. It takes no memory and goes over the corners
+    /// once.
     // At a point with the value x these entries are -floor(x) and -ceil(x). So the span's ends are those of the corners, and
     // open edges play no part.
     pub fn links(&self, w: V2) -> Span
@@ -23,10 +25,20 @@ impl Cell {
         }
     }
 
-    /// The second entries of the pairs to which the step of the cell's points leads from `w`: each whole number of the
-    /// span, and no other. It is given for entries within 2^37. It takes no memory, and costs what `links` does; where the
-    /// greatest value at a corner is whole, it goes over the corners and the halves once more.
-    pub fn moves(&self, w: V2) -> Span
+    /// The least and the greatest second entry of the pairs to which the step of the cell's points leads from `w`: each
+    /// whole number between is one too, and no other. It is given for entries within `srs_map::MOST_ENTRY`. It takes no
+    /// memory, and costs what `links` does; where the greatest value at a corner is whole, it goes over the corners and the
+    /// halves once more.
+    pub fn moves(&self, w: V2) -> (i64, i64)
+        requires { IsNarrow w }
+        ensures { AreMoves (LeadsTo self.now) w result.0 result.1 }
+    {
+        let span = self.steps(w);
+        (span.low, span.high)
+    }
+
+    // The span of these numbers.
+    fn steps(&self, w: V2) -> Span
         requires { IsNarrow w }
         ensures { AreMoves (LeadsTo self.now) w result.low result.high }
     {
@@ -41,15 +53,12 @@ impl Cell {
     }
 
     /// As `moves`, for the step mirrored at (0,0): the negated step of the negated pair.
-    pub fn wmoves(&self, w: V2) -> Span
+    pub fn wmoves(&self, w: V2) -> (i64, i64)
         requires { IsNarrow w }
-        ensures { AreMoves (LeadsBackTo self.now) w result.low result.high }
+        ensures { AreMoves (LeadsBackTo self.now) w result.0 result.1 }
     {
-        let span = self.moves(opposite(w));
-        Span {
-            low: -span.high,
-            high: -span.low,
-        }
+        let span = self.steps(minus(w));
+        (-span.high, -span.low)
     }
 }
 
@@ -62,13 +71,4 @@ pub(crate) fn step_form(w: V2) -> Form
         unreachable!()
     };
     form
-}
-
-// The pair on the other side of (0,0).
-fn opposite(w: V2) -> V2
-    requires { IsNarrow w }
-    ensures value { result ≡ minus w }
-    ensures narrow { IsNarrow result }
-{
-    V2 { a: -w.a, b: -w.b }
 }

@@ -1,8 +1,8 @@
 // Values of forms at corners.
-ghost use Rattle.std.specs.Prelude.{◌≡◌, ◌^◌, IsTrue};
+ghost use Rattle.std.specs.Prelude.{◌≡◌, ◌^◌, ◌*ℤ◌, IsTrue};
 ghost use Rattle.srs_num.specs.Points.{value, IsWithin, IsPointWithin};
 
-use srs_num::{Corner, Form, product};
+use srs_num::{Corner, Form};
 
 // The value of the form at the corner, whose numbers are within 2^38 where `short` is set: then products of 64 bits do.
 #[inline(always)]
@@ -36,4 +36,12 @@ fn dot(form: &Form, p: i64, q: i64, d: i64) -> i128
 {
     let (a, b, c) = form.parts();
     product(a, p) + product(b, q) + product(c, d)
+}
+
+// The exact product.
+#[inline(always)]
+fn product(a: i64, b: i64) -> i128
+    ensures { result ≡ a *ℤ b }
+{
+    i128::from(a) * i128::from(b)
 }

@@ -2,14 +2,14 @@
 ghost use Rattle.std.specs.Prelude.{◌≡◌, ◌≢◌, ◌<◌, ◌≤◌, ◌↔◌, ℕ, ℤ, length, slice_get, Some, IfErr, IsTrue, OnOk};
 ghost use Rattle.srs_num.specs.declared.pairs.V2.{V2};
 ghost use Rattle.srs_map.specs.Step.{IsNarrow, origin};
-ghost use Rattle.srs_cell.specs.Moves.{LeadsTo, LeadsBackTo};
+ghost use Rattle.srs_cell.specs.Moves.{LeadsTo, LeadsBackTo, AreMoves};
 ghost use Rattle.srs_path.specs.Lists.{IsRankList};
 ghost use Rattle.srs_check.specs.declared.faults.Fault.TheVariants.{NoUnit, NotClosed, NoFall};
 ghost use Rattle.srs_check.specs.Listed.{IsListed, IsBelow, ListsUnits, IsClosedAt, ProvesInside, IsFirstMissing, IsFaultAt, IsUnitFault, IsInsideFault};
 
 use crate::Fault;
 use crate::places::{place_for, rank_at};
-use srs_cell::Cell;
+use srs_cell::{Cell, Span};
 use srs_map::is_origin;
 use srs_num::V2;
 use srs_path::Ranks;
@@ -61,13 +61,31 @@ fn check_entry(cell: &Cell, ranks: &Ranks, i: u32) -> Result<(), Fault>
     check_back(cell, ranks, w)
 }
 
+// The second entries of the pairs to which a step leads from `w`.
+fn steps_from(cell: &Cell, w: V2) -> Span
+    requires { IsNarrow w }
+    ensures { AreMoves (LeadsTo cell.now) w result.low result.high }
+{
+    let (low, high) = cell.moves(w);
+    Span { low, high }
+}
+
+// The second entries of the pairs to which a mirrored step leads from `w`.
+fn mirrored_steps_from(cell: &Cell, w: V2) -> Span
+    requires { IsNarrow w }
+    ensures { AreMoves (LeadsBackTo cell.now) w result.low result.high }
+{
+    let (low, high) = cell.wmoves(w);
+    Span { low, high }
+}
+
 // The pairs to which a step leads from `w`: they are listed, and have lower ranks where `w` isn't (0,0).
 fn check_ahead(cell: &Cell, ranks: &Ranks, w: V2, rank: u32) -> Result<(), Fault>
     requires { IsNarrow w }
     ensures ok { OnOk result ((v : V2) → LeadsTo cell.now w v → IsBelow ranks.now (w, rank) v) }
     ensures err { IfErr result (IsFaultAt cell.now ranks.now (w, rank)) }
 {
-    let span = cell.moves(w);
+    let span = steps_from(cell, w);
     let mut place = place_for(ranks, span.pair(w, 0));
     for k in 0..span.count() {
         let v = span.pair(w, k);
@@ -95,7 +113,7 @@ fn check_back(cell: &Cell, ranks: &Ranks, w: V2) -> Result<(), Fault>
     ensures ok { OnOk result ((v : V2) → LeadsBackTo cell.now w v → IsListed ranks.now v) }
     ensures err { IfErr result (λ fault. (j : ℤ) × (fault ≡ NotClosed w j) × IsFirstMissing cell.now ranks.now w j) }
 {
-    let span = cell.wmoves(w);
+    let span = mirrored_steps_from(cell, w);
     let mut place = place_for(ranks, span.pair(w, 0));
     for k in 0..span.count() {
         let v = span.pair(w, k);

@@ -2,6 +2,7 @@
 ghost use Rattle.std.specs.Prelude.{◌≡◌, ◌≤◌, ◌<◌, ◌+◌, ◌^◌, [], ◌∷◌, ◌++◌, length, OnOk, IfOk};
 ghost use Rattle.srs_num.specs.Points.{IsWithin};
 ghost use Rattle.srs_path.specs.Cutout.{entry_at, lower_form, upper_form, cutout_of};
+ghost use Rattle.srs_path.specs.declared.limits.TheConstants.{MOST_WITNESSES};
 
 use srs_num::{Form, Forms, NoMemory};
 use srs_path::Cycle;
@@ -24,10 +25,7 @@ pub fn cutout(alloc: Global, c: &Cycle) -> Result<Forms, NoMemory>
 fn add_form(forms: &mut Forms, form: Form) -> Result<(), NoMemory>
     ensures { OnOk result (forms.new ≡ forms.old ++ form ∷ []) }
 {
-    match forms.push(form) {
-        Ok(()) => Ok(()),
-        Err(_) => Err(NoMemory),
-    }
+    forms.push(form).or(Err(NoMemory))
 }
 
 // `f_i`, for `i` below the length of the cycle.
@@ -57,7 +55,7 @@ fn entry(c: &Cycle, i: u32) -> i64
     requires { i ≤ length c.now + 1 }
     ensures value { result ≡ entry_at c.now i }
     ensures narrow { IsWithin (2 ^ 37) result }
-    ensures short { length c.now ≤ 16384 }
+    ensures short { length c.now ≤ MOST_WITNESSES }
 {
     c.entry(i % c.len())
 }

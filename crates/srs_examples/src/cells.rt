@@ -245,7 +245,7 @@ fn is_span(span: &Span, ends: Ends) -> bool {
 // Whether the step and the mirrored step at (a, b) lead there.
 fn has_spans(cell: &Cell, a: i64, b: i64, ahead: Ends, back: Ends) -> bool {
     let w = V2 { a, b };
-    is_narrow(w) && is_span(&cell.moves(w), ahead) && is_span(&cell.wmoves(w), back)
+    is_narrow(w) && cell.moves(w) == ahead && cell.wmoves(w) == back
 }
 
 fn has_links(cell: &Cell, a: i64, b: i64, links: Ends) -> bool {

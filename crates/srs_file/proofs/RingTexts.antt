@@ -79,7 +79,7 @@ plain_vertex v placed = line_no_lf (kind_word v.kind) (numbers_of v) (kind_plain
 
 -- each vertex of a polygon is in its range
 all_placed : (vs : List Vertex) → IsPolygon vs → All IsPlaced vs
-all_placed vs p = λ k d lt. rw (vertex_at-within vs k d lt) (record { shallow = p.shallow k lt; near = p.near k lt })
+all_placed vs p = λ k d lt. rw (vertex_at-within vs k d lt) (record { small = p.small k lt; near = p.near k lt })
 
 size_fits : (n : ℕ) → n ≤ 16 → All (FitsSigned w64) (pos n ∷ [])
 size_fits n h = let f : FitsSigned w64 (pos n) = omega (arith, ints) in All-cons (FitsSigned w64) (pos n) [] f (All-nil (FitsSigned w64))

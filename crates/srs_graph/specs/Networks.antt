@@ -4,6 +4,7 @@ use Rattle.srs_num.specs.declared.pairs.V2.{V2}
 use Rattle.srs_map.specs.Step.{origin, IsNarrow}
 use Rattle.srs_plane.specs.Regions.{Area}
 use Rattle.srs_path.specs.Witnesses.{HasEdge}
+use Rattle.srs_path.specs.declared.limits.TheConstants.{MOST_WITNESSES}
 use Rattle.srs_path.specs.Core.{Precedes}
 use Rattle.srs_wit.specs.Listing.{AreAllWitnesses}
 use Rattle.srs_graph.specs.declared.rows.Row.{Row}
@@ -32,11 +33,11 @@ pub record Network : Type 0 where
 abbrev pub network : List V2 → List Row → Network
 network ps rows = record { pairs = ps; rows = rows }
 
--- 1 to 16384 pairs, strictly ascending and with entries within 2^37, and as many rows
+-- one narrow pair at least and not more than the witnesses of a cell may be, strictly ascending, and as many rows
 pub record IsNetwork (g : Network) : Type 0 where
   pub rows : AreRows (length g.pairs) g.rows
   pub some : 1 ≤ length g.pairs
-  pub few : length g.pairs ≤ 16384
+  pub few : length g.pairs ≤ MOST_WITNESSES
   pub ascending : AllPairs Precedes g.pairs
   pub narrow : All IsNarrow g.pairs
 

@@ -4,6 +4,7 @@ ghost use Rattle.std.specs.Prelude.{◌≡◌, ◌≢◌, ◌<◌, ◌≤◌, �
 ghost use Rattle.srs_graph.specs.Networks.{row_at, AreRows};
 ghost use Rattle.srs_graph.specs.Marks.{mark_at, AreMarks};
 ghost use Rattle.srs_graph.specs.Descents.{is_entered, AreNotEntered, left_over, StayEntered, AreSmall, IsRead, TopWaitsFor, IsDescent};
+ghost use Rattle.srs_path.specs.declared.limits.TheConstants.{MOST_WITNESSES};
 
 use crate::rows::Row;
 use srs_map::is_origin;
@@ -65,15 +66,8 @@ impl Descent {
         ensures entered { IfOk result (λ descent. AreNotEntered n descent.entered.items) }
         ensures path { IfOk result (λ descent. descent.path.items ≡ []) }
     {
-        let mut entered = Vec::new(alloc);
-        for _ in 0..n {
-            match entered.push(false) {
-                Ok(()) => {}
-                Err(_) => return Err(NoMemory),
-            }
-        }
         Ok(Descent {
-            entered,
+            entered: vec![in alloc; false; n]?,
             path: Vec::new(alloc),
         })
     }
@@ -83,10 +77,8 @@ impl Descent {
         ensures entered { self.new.entered.items ≡ self.old.entered.items }
         ensures path { OnOk result (self.new.path.items ≡ self.old.path.items ++ visit ∷ []) }
     {
-        match self.path.push(visit) {
-            Ok(()) => Ok(()),
-            Err(_) => Err(NoMemory),
-        }
+        self.path.push(visit)?;
+        Ok(())
     }
 
     // Enters a pair, for which the top of the path waits. (0, 0) has its rank at once.
@@ -130,7 +122,7 @@ impl Descent {
         top: Visit,
     ) -> Result<(), NoMemory>
         requires rows { AreRows (length pairs.now) rows.now }
-        requires few { length pairs.now ≤ 16384 }
+        requires few { length pairs.now ≤ MOST_WITNESSES }
         requires descent { IsDescent pairs.now rows.now marks.old self.old.entered.items (self.old.path.items ++ top ∷ []) }
         ensures descent { OnOk result (IsDescent pairs.now rows.now marks.new self.new.entered.items self.new.path.items) }
         ensures stay { OnOk result (StayEntered self.old.entered.items self.new.entered.items) }
@@ -162,7 +154,7 @@ impl Descent {
         start: usize,
     ) -> Result<(), NoMemory>
         requires rows { AreRows (length pairs.now) rows.now }
-        requires few { length pairs.now ≤ 16384 }
+        requires few { length pairs.now ≤ MOST_WITNESSES }
         requires descent { IsDescent pairs.now rows.now marks.old self.old.entered.items self.old.path.items }
         requires path { self.old.path.items ≡ [] }
         requires here { start < length pairs.now }

@@ -7,6 +7,7 @@ ghost use Rattle.srs_path.specs.ChosenCycle.{IsChosen};
 ghost use Rattle.srs_wit.specs.Listing.{AreAllWitnesses};
 ghost use Rattle.srs_graph.specs.Networks.{network, IsNetwork, IsGraph};
 ghost use Rattle.srs_graph.specs.Listings.{AreTheCore};
+ghost use Rattle.srs_path.specs.declared.limits.TheConstants.{MOST_WITNESSES};
 
 use crate::listing::{numbers, open_pairs};
 use crate::peeling::peel;
@@ -38,17 +39,15 @@ impl Model for Graph {
 }
 
 impl Graph {
-    /// The graph of the cell, for the set of its witnesses. The cell is small for 16384 witnesses.
+    /// The graph of the cell, for the set of its witnesses. The cell is small for `MOST_WITNESSES` witnesses.
     pub fn of(alloc: Global, cell: &Cell, set: &WitSet) -> Result<Graph, NoMemory>
-        requires small { IsSmall cell.now 16384 }
+        requires small { IsSmall cell.now MOST_WITNESSES }
         requires all { AreAllWitnesses cell.now set.now }
         ensures { IfOk result (IsGraph cell.now) }
     {
         let rows = rows_of(alloc, cell, set.as_slice())?;
-        match Vec::from_slice(alloc, set.as_slice()) {
-            Ok(pairs) => Ok(Graph { pairs, rows }),
-            Err(_) => Err(NoMemory),
-        }
+        let pairs = Vec::from_slice(alloc, set.as_slice())?;
+        Ok(Graph { pairs, rows })
     }
 
     /// The core, strictly ascending.

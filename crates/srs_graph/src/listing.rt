@@ -18,10 +18,7 @@ pub(crate) fn open_pairs(
     let mut found = Pairs::new(alloc);
     for i in 0..marks.len() {
         if marks[i].is_none() {
-            match found.push(pairs[i]) {
-                Ok(()) => {}
-                Err(_) => return Err(NoMemory),
-            }
+            found.push(pairs[i]).or(Err(NoMemory))?;
         }
     }
     Ok(found)
@@ -35,12 +32,7 @@ pub(crate) fn numbers(alloc: Global, marks: &[Option<u32>]) -> Result<Option<Num
     for i in 0..marks.len() {
         match marks[i] {
             None => return Ok(None),
-            Some(n) => {
-                match numbers.push(i64::from(n)) {
-                    Ok(()) => {}
-                    Err(_) => return Err(NoMemory),
-                }
-            }
+            Some(n) => numbers.push(i64::from(n)).or(Err(NoMemory))?,
         }
     }
     Ok(Some(numbers))

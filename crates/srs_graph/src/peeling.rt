@@ -2,6 +2,7 @@
 ghost use Rattle.std.specs.Prelude.{◌≡◌, ◌<◌, ◌≤◌, length, IfOk};
 ghost use Rattle.srs_graph.specs.Networks.{AreRows};
 ghost use Rattle.srs_graph.specs.Marks.{HasNoMarks, IsPeeled};
+ghost use Rattle.srs_path.specs.declared.limits.TheConstants.{MOST_WITNESSES};
 
 use crate::descent::Descent;
 use crate::rows::Row;
@@ -12,20 +13,13 @@ use std::alloc::Global;
 pub(crate) fn no_marks(alloc: Global, n: usize) -> Result<Vec<Option<u32>>, NoMemory>
     ensures { IfOk result (λ marks. HasNoMarks n marks.items) }
 {
-    let mut marks = Vec::new(alloc);
-    for _ in 0..n {
-        match marks.push(None) {
-            Ok(()) => {}
-            Err(_) => return Err(NoMemory),
-        }
-    }
-    Ok(marks)
+    Ok(vec![in alloc; None; n]?)
 }
 
 // The marks that nothing can be added to.
 pub(crate) fn peel(alloc: Global, pairs: &[V2], rows: &[Row]) -> Result<Vec<Option<u32>>, NoMemory>
     requires rows { AreRows (length pairs.now) rows.now }
-    requires few { length pairs.now ≤ 16384 }
+    requires few { length pairs.now ≤ MOST_WITNESSES }
     ensures { IfOk result (λ marks. IsPeeled pairs.now rows.now marks.items) }
 {
     let mut marks = no_marks(alloc, pairs.len())?;

@@ -1,11 +1,11 @@
 // The successors of a pair. They begin with its second entry, and their second entries are the whole numbers of a span:
 // so they stand side by side in the ascending list of all witnesses.
-ghost use Rattle.std.specs.Prelude.{◌≡◌, ◌<◌, ◌^◌, pos, ◌+ℤ◌, ◌≤ℤ◌, length, Contains, AllPairs, All, IfOk, IsTrue, true, false};
+ghost use Rattle.std.specs.Prelude.{◌≡◌, ◌<◌, ◌^◌, pos, ◌+ℤ◌, ◌≤ℤ◌, length, Contains, AllPairs, All, IfOk};
 ghost use Rattle.srs_num.specs.Points.{IsWithin};
 ghost use Rattle.srs_map.specs.Step.{pair, IsNarrow};
+ghost use Rattle.srs_cell.specs.Moves.{LeadsTo, AreMoves};
 ghost use Rattle.srs_path.specs.Witnesses.{IsWitness};
 ghost use Rattle.srs_path.specs.Core.{Precedes};
-ghost use Rattle.srs_path.specs.ChosenCycle.{NotAfter};
 ghost use Rattle.srs_wit.specs.Listing.{AreAllWitnesses};
 ghost use Rattle.srs_graph.specs.Networks.{pair_at, IsRowOf, AreRowsOf};
 
@@ -20,14 +20,6 @@ pub struct Row {
     pub len: usize,
 }
 
-// Whether v stands before w.
-fn is_before(v: V2, w: V2) -> bool
-    ensures yes { result ≡ true → Precedes v w }
-    ensures no { result ≡ false → NotAfter w v }
-{
-    if v.a == w.a { v.b < w.b } else { v.a < w.a }
-}
-
 // The place of a pair of the list.
 fn place(pairs: &[V2], v: V2) -> usize
     requires ascending { AllPairs Precedes pairs.now }
@@ -35,17 +27,10 @@ fn place(pairs: &[V2], v: V2) -> usize
     ensures within { result < length pairs.now }
     ensures is { pair_at pairs.now result ≡ v }
 {
-    let mut low = 0;
-    let mut high = pairs.len();
-    while high - low > 1 {
-        let mid = low + (high - low) / 2;
-        if is_before(v, pairs[mid]) {
-            high = mid;
-        } else {
-            low = mid;
-        }
-    }
-    low
+    let Ok(place) = pairs.binary_search(&v) else {
+        unreachable!()
+    };
+    place
 }
 
 // The first pair of the span of w.
@@ -68,6 +53,15 @@ fn count(span: Span) -> usize
     (span.high - span.low + 1) as usize
 }
 
+// The second entries of the pairs to which the step leads from the pair.
+fn steps(cell: &Cell, w: V2) -> Span
+    requires { IsNarrow w }
+    ensures { AreMoves (LeadsTo cell.now) w result.low result.high }
+{
+    let (low, high) = cell.moves(w);
+    Span { low, high }
+}
+
 // The successors of a witness.
 fn row_of(cell: &Cell, pairs: &[V2], w: V2) -> Row
     requires all { AreAllWitnesses cell.now pairs.now }
@@ -76,7 +70,7 @@ fn row_of(cell: &Cell, pairs: &[V2], w: V2) -> Row
     ensures { IsRowOf cell.now pairs.now w result }
 {
     let _region = cell.region();
-    let span = cell.moves(w);
+    let span = steps(cell, w);
     let start = place(pairs, first_of(w, span));
     Row {
         start,
@@ -90,12 +84,9 @@ pub(crate) fn rows_of(alloc: Global, cell: &Cell, pairs: &[V2]) -> Result<Vec<Ro
     requires narrow { All IsNarrow pairs.now }
     ensures { IfOk result (λ rows. AreRowsOf cell.now pairs.now rows.items) }
 {
-    let mut rows = Vec::new(alloc);
+    let mut rows = Vec::with_capacity(alloc, pairs.len())?;
     for w in pairs {
-        match rows.push(row_of(cell, pairs, *w)) {
-            Ok(()) => {}
-            Err(_) => return Err(NoMemory),
-        }
+        rows.push(row_of(cell, pairs, *w))?;
     }
     Ok(rows)
 }

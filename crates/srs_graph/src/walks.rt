@@ -4,6 +4,7 @@ ghost use Rattle.std.specs.List.{range_with_len};
 ghost use Rattle.srs_graph.specs.Networks.{AreRows};
 ghost use Rattle.srs_graph.specs.Marks.{mark_at, LeadsOn};
 ghost use Rattle.srs_graph.specs.Walks.{IsFirstOpen, AreAllMarked, IsStep, LeadOn, IsRound, first_entries};
+ghost use Rattle.srs_path.specs.declared.limits.TheConstants.{MOST_WITNESSES};
 
 use crate::peeling::no_marks;
 use crate::rows::Row;
@@ -54,7 +55,7 @@ pub(crate) fn walk(
     first: usize,
 ) -> Result<Round, NoMemory>
     requires rows { AreRows (length marks.now) rows.now }
-    requires few { length marks.now ≤ 16384 }
+    requires few { length marks.now ≤ MOST_WITNESSES }
     requires on { LeadOn rows.now marks.now }
     requires first { IsFirstOpen marks.now 0 (length marks.now) first }
     ensures { IfOk result (λ round. IsRound rows.now marks.now round.path.items round.from) }
@@ -70,10 +71,7 @@ pub(crate) fn walk(
             });
         }
         met[at] = Some(path.len() as u32);
-        match path.push(at) {
-            Ok(()) => {}
-            Err(_) => return Err(NoMemory),
-        }
+        path.push(at)?;
         at = next_open(rows, marks, at);
     }
 }
@@ -91,10 +89,7 @@ pub(crate) fn entries(
 {
     let mut entries = Nums::new(alloc);
     for k in from..path.len() {
-        match entries.push(pairs[path[k]].a) {
-            Ok(()) => {}
-            Err(_) => return Err(NoMemory),
-        }
+        entries.push(pairs[path[k]].a).or(Err(NoMemory))?;
     }
     Ok(entries)
 }

@@ -3,6 +3,7 @@ use Rattle.std.specs.Prelude.{ℕ, zero, suc, ◌^◌, ℤ, pos, neg_ℤ, ◌+�
 use Rattle.srs_num.specs.declared.pairs.V2.{V2}
 use Rattle.srs_num.specs.Points.{Point, IsWithin}
 use Rattle.srs_num.specs.Floor.{floor_quotient}
+use Rattle.srs_map.specs.declared.steps.TheConstants.{MOST_ENTRY}
 
 abbrev pub pair : ℤ → ℤ → V2
 pair a b = record { a = a; b = b }
@@ -27,6 +28,6 @@ abbrev pub after : ℕ → Point → V2 → V2
 after zero r z = z
 after (suc n) r z = step_of r (after n r z)
 
--- both entries are within 2^37
+-- both entries are within the most that they may be
 abbrev pub IsNarrow : V2 → Type 0
-IsNarrow w = IsWithin (2 ^ 37) w.a × IsWithin (2 ^ 37) w.b
+IsNarrow w = IsWithin MOST_ENTRY w.a × IsWithin MOST_ENTRY w.b

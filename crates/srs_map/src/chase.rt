@@ -4,6 +4,7 @@ ghost use Rattle.std.specs.Prelude.{◌≡◌, ◌≤◌, ◌↔◌, IsTrue, IfS
 ghost use Rattle.srs_num.specs.Points.{IsNear};
 ghost use Rattle.srs_map.specs.Step.{after, origin, IsNarrow};
 ghost use Rattle.srs_map.specs.Chase.{IsPlain, IsPlainBefore, IsEvent, IsMeeting, IsFinish, IsStart, IsPeriod};
+ghost use Rattle.srs_map.specs.declared.orbits.TheConstants.{MOST_STEPS};
 
 use crate::{is_narrow, is_origin, step};
 use srs_num::{Pt, V2};
@@ -29,7 +30,7 @@ pub enum Finish {
 pub fn race(r: &Pt, z: V2, n: u32) -> Finish
     requires near { IsNear r.now }
     requires plain { IsPlain z }
-    requires few { n ≤ 100000 }
+    requires few { n ≤ MOST_STEPS }
     ensures { IsFinish r.now z n result }
 {
     let mut tortoise = z;

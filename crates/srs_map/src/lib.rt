@@ -9,5 +9,5 @@ pub mod laws;
 mod orbits;
 mod steps;
 
-pub use orbits::{OrbitEnd, orbit};
-pub use steps::{is_narrow, is_origin, step};
+pub use orbits::{MOST_STEPS, OrbitEnd, orbit};
+pub use steps::{MOST_ENTRY, is_narrow, is_origin, minus, step};

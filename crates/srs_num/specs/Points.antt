@@ -1,5 +1,7 @@
 -- Points with rational coordinates, and linear forms. Whole numbers have no bound here.
 use Rattle.std.specs.Prelude.{ℕ, ◌^◌, ◌≤◌, ℤ, pos, neg_ℤ, ◌+ℤ◌, ◌*ℤ◌, ◌≤ℤ◌, unsigned_abs}
+use Rattle.srs_num.specs.declared.forms.TheConstants.{MOST_COEFFICIENT}
+use Rattle.srs_num.specs.declared.points.TheConstants.{MOST_DENOMINATOR, MOST_NUMERATOR}
 
 -- three numbers that stand for (p / d, q / d)
 pub record Point : Type 0 where
@@ -36,18 +38,18 @@ pub record IsNear (r : Point) : Type 0 where
 abbrev pub IsWithin : ℕ → ℤ → Type 0
 IsWithin m z = unsigned_abs z ≤ m
 
--- what a `Form` keeps: coefficients within 2^38
+-- what a `Form` keeps: its numbers are within the most that they may be
 pub record IsFormSized (f : LinearForm) : Type 0 where
-  pub a_range : IsWithin (2 ^ 38) f.a
-  pub b_range : IsWithin (2 ^ 38) f.b
-  pub c_range : IsWithin (2 ^ 38) f.c
+  pub a_range : IsWithin MOST_COEFFICIENT f.a
+  pub b_range : IsWithin MOST_COEFFICIENT f.b
+  pub c_range : IsWithin MOST_COEFFICIENT f.c
 
--- what a `Pt` keeps: d is 1 to 2^40, and p and q are within 2^42
+-- what a `Pt` keeps: a denominator and numerators that are within the most that they may be
 pub record IsPtSized (r : Point) : Type 0 where
   pub is_point : IsPoint r
-  pub d_range : IsWithin (2 ^ 40) r.d
-  pub p_range : IsWithin (2 ^ 42) r.p
-  pub q_range : IsWithin (2 ^ 42) r.q
+  pub d_range : IsWithin MOST_DENOMINATOR r.d
+  pub p_range : IsWithin MOST_NUMERATOR r.p
+  pub q_range : IsWithin MOST_NUMERATOR r.q
 
 -- a point whose three numbers are within m
 pub record IsPointWithin (m : ℕ) (r : Point) : Type 0 where

@@ -1,12 +1,12 @@
 // Linear forms and their values.
-ghost use Rattle.std.specs.Prelude.{◌≡◌, ◌+◌, ◌-◌, ◌^◌, ◌*ℤ◌, IfSome, IfNone};
+ghost use Rattle.std.specs.Prelude.{◌≡◌, ◌+◌, ◌-◌, ◌^◌, IfSome, IfNone};
 ghost use Rattle.srs_num.specs.Points.{LinearForm, value, opposite, IsFormSized, IsWithin};
 
 use crate::{Corner, Pt, Steps};
 use std::marker::Model;
 use std::sync::ledger::Ledger;
 
-/// The linear form `a*x + b*y + c`. Its three numbers are at most 2^38 in magnitude.
+/// The linear form `a*x + b*y + c`. Its three numbers are at most `MOST_COEFFICIENT` in magnitude.
 #[derive(Clone, Copy, Debug, PartialEq, Eq, Drop)]
 pub struct Form {
     a: i64,
@@ -26,15 +26,19 @@ impl Model for Form {
     ghost inverse = { λ f. record { a = f.a; b = f.b; c = f.c } };
 }
 
-const MOST: i64 = 1 << 38;
+/// The most in magnitude of each of the three numbers of a form.
+pub const MOST_COEFFICIENT: u64 = 1 << 38;
 
 impl Form {
-    /// `None` exactly where one of the three is beyond 2^38 in magnitude.
+    /// `None` exactly where one of the three is beyond `MOST_COEFFICIENT` in magnitude.
     pub fn new(a: i64, b: i64, c: i64) -> Option<Form>
         ensures some { IfSome result (λ f. f ≡ record { a = a; b = b; c = c }) }
         ensures none { IfNone result (IsFormSized (record { a = a; b = b; c = c }) → ⊥) }
     {
-        if a < -MOST || a > MOST || b < -MOST || b > MOST || c < -MOST || c > MOST {
+        if a.unsigned_abs() > MOST_COEFFICIENT
+            || b.unsigned_abs() > MOST_COEFFICIENT
+            || c.unsigned_abs() > MOST_COEFFICIENT
+        {
             return None;
         }
         Some(Form { a, b, c })
@@ -88,11 +92,4 @@ impl Form {
     {
         self.a as i128 * p + self.b as i128 * q + self.c as i128 * d
     }
-}
-
-/// The exact product.
-pub fn product(a: i64, b: i64) -> i128
-    ensures { result ≡ a *ℤ b }
-{
-    i128::from(a) * i128::from(b)
 }

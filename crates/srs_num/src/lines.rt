@@ -1,16 +1,17 @@
 // Where lines cross, and sums of corners.
 ghost use Rattle.std.specs.Prelude.{◌≡◌, ◌≤◌, ◌^◌, ◌↔◌, pos, ◌-ℤ◌, ◌*ℤ◌, ◌<ℤ◌, All, length, IsNone, IfSome};
+ghost use Rattle.srs_num.specs.declared.forms.TheConstants.{MOST_COEFFICIENT};
 ghost use Rattle.srs_num.specs.Points.{IsWithin, IsPointWithin};
 ghost use Rattle.srs_num.specs.Lines.{meet, IsCrossing, sum_of};
 
 use crate::{Corner, Form};
 
-/// `a * d - b * c`, for numbers of forms.
-pub fn minor(a: i64, b: i64, c: i64, d: i64) -> i128
-    requires a { IsWithin (2 ^ 38) a }
-    requires b { IsWithin (2 ^ 38) b }
-    requires c { IsWithin (2 ^ 38) c }
-    requires d { IsWithin (2 ^ 38) d }
+// `a * d - b * c`, for numbers of forms.
+fn minor(a: i64, b: i64, c: i64, d: i64) -> i128
+    requires a { IsWithin MOST_COEFFICIENT a }
+    requires b { IsWithin MOST_COEFFICIENT b }
+    requires c { IsWithin MOST_COEFFICIENT c }
+    requires d { IsWithin MOST_COEFFICIENT d }
     ensures value { result ≡ a *ℤ d -ℤ b *ℤ c }
     ensures size { IsWithin (2 ^ 77) result }
 {

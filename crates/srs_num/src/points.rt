@@ -1,11 +1,13 @@
 // Points with rational coordinates: those that are asked about, and the corners of cells.
 ghost use Rattle.std.specs.Prelude.{◌≡◌, ◌-◌, ◌^◌, ◌↔◌, pos, neg_ℤ, ◌*ℤ◌, ◌≤ℤ◌, IsTrue, IfSome, IfNone};
+ghost use Rattle.srs_num.specs.declared.points.TheConstants.{MOST_DENOMINATOR};
 ghost use Rattle.srs_num.specs.Points.{IsPtSized, IsPointWithin, IsNear, IsWithin};
 ghost use Rattle.srs_num.specs.Lines.{plus};
 
 use std::marker::Model;
 
-/// The point `(p / d, q / d)`, with `d` from 1 to 2^40 and `p` and `q` at most 2^42 in magnitude.
+/// The point `(p / d, q / d)`, with `d` from 1 to `MOST_DENOMINATOR` and `p` and `q` at most `MOST_NUMERATOR` in
+/// magnitude.
 #[derive(Clone, Copy, Debug, PartialEq, Eq, Drop)]
 pub struct Pt {
     p: i64,
@@ -25,17 +27,23 @@ impl Model for Pt {
     ghost inverse = { λ r. record { p = r.p; q = r.q; d = r.d } };
 }
 
-const MOST: i64 = 1 << 42;
+/// The most that the denominator of a point that is asked about may be.
+pub const MOST_DENOMINATOR: u64 = 1 << 40;
 
-const DEEPEST: i64 = 1 << 40;
+/// The most in magnitude of its two numerators.
+pub const MOST_NUMERATOR: u64 = 1 << 42;
 
 impl Pt {
-    /// `None` exactly where `d` isn't 1 to 2^40 or one of the others is beyond 2^42 in magnitude.
+    /// `None` exactly where `d` isn't 1 to `MOST_DENOMINATOR` or one of the others is beyond `MOST_NUMERATOR` in
+    /// magnitude.
     pub fn new(p: i64, q: i64, d: i64) -> Option<Pt>
         ensures some { IfSome result (λ r. r ≡ record { p = p; q = q; d = d }) }
         ensures none { IfNone result (IsPtSized (record { p = p; q = q; d = d }) → ⊥) }
     {
-        if d < 1 || d > DEEPEST || p < -MOST || p > MOST || q < -MOST || q > MOST {
+        if d < 1 || d.unsigned_abs() > MOST_DENOMINATOR {
+            return None;
+        }
+        if p.unsigned_abs() > MOST_NUMERATOR || q.unsigned_abs() > MOST_NUMERATOR {
             return None;
         }
         Some(Pt { p, q, d })
@@ -62,7 +70,7 @@ impl Pt {
 // Whether z / d is at most 4 in magnitude.
 fn is_near(z: i64, d: i64) -> bool
     requires low { pos 1 ≤ℤ d }
-    requires high { IsWithin (2 ^ 40) d }
+    requires high { IsWithin MOST_DENOMINATOR d }
     ensures { IsTrue result ↔ ((neg_ℤ (pos 4 *ℤ d) ≤ℤ z) × (z ≤ℤ (pos 4 *ℤ d))) }
 {
     -4 * d <= z && z <= 4 * d

@@ -1,5 +1,5 @@
 -- The sides of a path, and Ge up to 48.
-use Rattle.std.proofs.Common.{◌≡◌, ℕ, suc, ◌-◌, ◌≤◌, ◌<◌, ◌+◌, List, [], ◌∷◌, ◌++◌, length, take, sym, arith, ap, ◌∙◌, length-append, get_or, subst, Bool, refl, ◌&&◌}
+use Rattle.std.proofs.Common.{◌≡◌, ℕ, suc, ◌-◌, ◌≤◌, ◌<◌, ◌+◌, List, [], ◌∷◌, ◌++◌, length, take, sym, arith, ap, ◌∙◌, length-append, get_or, subst, Bool, true, false, true≢false, refl, ◌&&◌}
 use Rattle.std.proofs.Math.ListN.{replicate, set}
 use Rattle.std.proofs.Math.Seq.{set-append_seam, append_snoc, take-append_seam, take-suc}
 use Rattle.std.proofs.lemmas.List.{length-replicate, length-take-le}
@@ -8,7 +8,7 @@ use Rattle.std.proofs.lemmas.Slice.Eq.{slice_eq-Decides}
 use Rattle.std.proofs.lemmas.Bool.Decides.{Decides-eqb, Decides-and}
 use lib.Pointwise.{pointwise}
 use Rattle.srs_path.specs.declared.paths.Side.{Side}
-use Rattle.srs_path.specs.declared.paths.Side.TheVariants.{Ge}
+use Rattle.srs_path.specs.declared.paths.Side.TheVariants.{Ge, Lt}
 use Rattle.srs_path.specs.Paths.{padded, IsPadded}
 
 length-padded : (s : List Side) → length (padded s) ≡ length s + (48 - length s)
@@ -75,12 +75,24 @@ one_fewer sides n m h e =
       view = w ∙ ap (λ (x : List Side). x ++ s ∷ []) (sym (ap (take m) q ∙ ap (λ (i : ℕ). take i (padded v)) (sym l) ∙ take-append_seam v (replicate (48 - length v) Ge)));
     }
 
+-- a test of two sides
+sides_decide : (E : Side → Side → Bool) → E Ge Ge ≡ true → E Ge Lt ≡ false → E Lt Ge ≡ false → E Lt Lt ≡ true
+    → (s t : Side) → Decides (E s t) (s ≡ t)
+sides_decide E gg gl lg ll Ge Ge = ((λ _. refl), (λ _. gg))
+sides_decide E gg gl lg ll Ge Lt = ((λ h. absurd (true≢false (sym h ∙ gl))), (λ h. absurd (cc)))
+sides_decide E gg gl lg ll Lt Ge = ((λ h. absurd (true≢false (sym h ∙ lg))), (λ h. absurd (cc)))
+sides_decide E gg gl lg ll Lt Lt = ((λ _. refl), (λ _. ll))
+
 -- what `==` says of two paths
-pub same_paths : {E : Side → Side → Bool} → ((s t : Side) → Decides (E s t) (s ≡ t)) → (a b : List Side) (r : Bool)
-    → r ≡ (pointwise E (padded a) (padded b) && (length a == length b)) → (IsTrue r → a ≡ b) × (a ≡ b → IsTrue r)
-same_paths {E} same a b r e =
+pub same_paths : (E : Side → Side → Bool) (a b : List Side) (r : Bool) → r ≡ (pointwise E (padded a) (padded b) && (length a == length b))
+    → ((s t : Side) → Decides (E s t) (s ≡ t)) → (IsTrue r → a ≡ b) × (a ≡ b → IsTrue r)
+same_paths E a b r e same =
     let d = Decides-and _ _ (slice_eq-Decides same (padded a) (padded b) (pointwise E (padded a) (padded b)) refl) (Decides-eqb (length a) (length b)) in
     let back : (s : List Side) → take (length s) (padded s) ≡ s = λ s. take-append_seam s (replicate (48 - length s) Ge) in (
       λ t. let w = d.0 (sym e ∙ t) in sym (back a) ∙ ap (take (length a)) w.0 ∙ ap (λ (n : ℕ). take n (padded b)) w.1 ∙ back b,
       λ w. e ∙ d.1 (ap padded w, ap (length {A = Side}) w),
     )
+
+pub sides_tested : (E : Side → Side → Bool) → E Ge Ge ≡ true → E Ge Lt ≡ false → E Lt Ge ≡ false → E Lt Lt ≡ true → (a b : List Side) (r : Bool)
+    → r ≡ (pointwise E (padded a) (padded b) && (length a == length b)) → (IsTrue r → a ≡ b) × (a ≡ b → IsTrue r)
+sides_tested E gg gl lg ll a b r e = same_paths E a b r e (sides_decide E gg gl lg ll)

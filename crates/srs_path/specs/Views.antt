@@ -4,6 +4,7 @@ use Rattle.std.specs.declared.option.Option.{Option}
 use Rattle.srs_plane.specs.Regions.{Area}
 use Rattle.srs_path.specs.declared.outcomes.Outcome.{Outcome}
 use Rattle.srs_path.specs.declared.paths.Side.{Side}
+use Rattle.srs_path.specs.declared.limits.TheConstants.{MOST_DEPTH, MOST_CELLS, MOST_WITNESSES, MOST_PRODUCT}
 use Rattle.srs_path.specs.declared.limits.Last.{Last}
 use Rattle.srs_path.specs.declared.limits.Last.TheVariants.{Depth, Cells}
 
@@ -13,14 +14,14 @@ pub record Budget : Type 0 where
   pub cells : ℕ
   pub wits : ℕ
 
--- depth 0 to 48, cells 1 to 65536, witnesses 1 to 16384, and witnesses times cells at most 2^22
+-- one cell and one witness at least, and none of the three, nor the product of the last two, more than it may be
 pub record IsBudget (b : Budget) : Type 0 where
-  pub depth : b.depth ≤ 48
+  pub depth : b.depth ≤ MOST_DEPTH
   pub some_cell : 1 ≤ b.cells
-  pub cells : b.cells ≤ 65536
+  pub cells : b.cells ≤ MOST_CELLS
   pub some_wit : 1 ≤ b.wits
-  pub wits : b.wits ≤ 16384
-  pub product : b.wits * b.cells ≤ 2 ^ 22
+  pub wits : b.wits ≤ MOST_WITNESSES
+  pub product : b.wits * b.cells ≤ MOST_PRODUCT
 
 -- which limit is spent: the depth in round D, else the cells where they and two for each that is pending are more than C
 abbrev pub last_of : Budget → ℕ → ℕ → ℕ → Option Last

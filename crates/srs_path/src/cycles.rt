@@ -1,17 +1,20 @@
 // Cycles by the first entries of their pairs.
-ghost use Rattle.std.specs.Prelude.{◌≡◌, ◌≢◌, ◌↔◌, ◌<◌, ◌^◌, length, slice_get, Some, All, IsTrue, IfSome, IfNone, IfOk, IsSome};
+ghost use Rattle.std.specs.Prelude.{◌≡◌, ◌≢◌, ◌↔◌, ◌<◌, length, slice_get, Some, All, IsTrue, IfSome, IfNone, IfOk, IsSome};
 ghost use Rattle.srs_num.specs.Points.{IsWithin};
+ghost use Rattle.srs_map.specs.declared.steps.TheConstants.{MOST_ENTRY};
 ghost use Rattle.srs_map.specs.Step.{pair, origin};
 ghost use Rattle.srs_path.specs.Cutout.{entry_at};
 ghost use Rattle.srs_path.specs.Lists.{IsCycle};
 
+use crate::MOST_WITNESSES;
+use srs_map::MOST_ENTRY;
 use srs_num::NoMemory;
 use srs_text::Nums;
 use std::alloc::Global;
 use std::marker::Model;
 
-/// The first entries `a_0 .. a_(n-1)` of the pairs of a cycle: 1 to 16384 numbers within 2^37, where `a_0` and the
-/// next one, counted round, aren't both 0.
+/// The first entries `a_0 .. a_(n-1)` of the pairs of a cycle: 1 to `MOST_WITNESSES` numbers within `MOST_ENTRY`, where
+/// `a_0` and the next one, counted round, aren't both 0.
 #[derive(Drop)]
 pub struct Cycle {
     entries: Nums,
@@ -27,8 +30,6 @@ impl Model for Cycle {
 
     ghost invariant = { λ c. IsCycle c.entries };
 }
-
-const MOST: u64 = 16384;
 
 impl Cycle {
     /// `None` exactly where the numbers are no such list. It takes no memory.
@@ -74,9 +75,7 @@ pub(crate) fn copy_of(alloc: Global, entries: &Nums) -> Result<Nums, NoMemory>
 {
     let mut copy = Nums::new(alloc);
     for entry in entries.as_slice() {
-        if copy.push(*entry).is_err() {
-            return Err(NoMemory);
-        }
+        copy.push(*entry).or(Err(NoMemory))?;
     }
     Ok(copy)
 }
@@ -86,7 +85,7 @@ fn is_cycle(entries: &Nums) -> bool
     ensures { IsTrue result ↔ IsCycle entries.now }
 {
     let count = entries.len();
-    if count == 0 || count > MOST {
+    if count == 0 || count > u64::from(MOST_WITNESSES) {
         return false;
     }
     if !all_narrow(entries) {
@@ -96,15 +95,15 @@ fn is_cycle(entries: &Nums) -> bool
 }
 
 fn all_narrow(entries: &Nums) -> bool
-    ensures { IsTrue result ↔ All (IsWithin (2 ^ 37)) entries.now }
+    ensures { IsTrue result ↔ All (IsWithin MOST_ENTRY) entries.now }
 {
-    entries.as_slice().iter().all(|z| is_narrow(*z))
+    entries.as_slice().iter().all(|z| is_entry(*z))
 }
 
-fn is_narrow(z: i64) -> bool
-    ensures { IsTrue result ↔ IsWithin (2 ^ 37) z }
+fn is_entry(z: i64) -> bool
+    ensures { IsTrue result ↔ IsWithin MOST_ENTRY z }
 {
-    -(1 << 37) <= z && z <= 1 << 37
+    z.unsigned_abs() <= MOST_ENTRY
 }
 
 // Whether the first entry or the one after it, counted round, isn't 0.

@@ -14,7 +14,7 @@ mod sharing;
 pub use cycles::Cycle;
 pub use events::Event;
 pub use findings::Finding;
-pub use limits::{Last, Limits};
+pub use limits::{Last, Limits, MOST_CELLS, MOST_DEPTH, MOST_PRODUCT, MOST_WITNESSES};
 pub use outcomes::{Cause, Outcome, Why};
 pub use paths::{Path, Side};
 pub use ranks::Ranks;

@@ -4,6 +4,18 @@ ghost use Rattle.srs_path.specs.Views.{Budget, IsBudget, last_of};
 
 use std::marker::Model;
 
+/// The most cuts on the way to a cell.
+pub const MOST_DEPTH: u32 = 48;
+
+/// The most cells that may be asked for.
+pub const MOST_CELLS: u32 = 65536;
+
+/// The most witnesses of a cell that may be asked for.
+pub const MOST_WITNESSES: u32 = 16384;
+
+/// The most that the number of cells and that of the witnesses of a cell may be, multiplied.
+pub const MOST_PRODUCT: u64 = 1 << 22;
+
 /// Which limit is spent.
 #[derive(Clone, Copy, Debug, PartialEq, Eq, Drop)]
 pub enum Last {
@@ -11,8 +23,8 @@ pub enum Last {
     Cells,
 }
 
-/// The greatest depth of a cell (0 to 48), the most cells (1 to 65536), and the most witnesses of a cell (1 to 16384);
-/// the product of the last two is at most 2^22.
+/// The greatest depth of a cell (0 to `MOST_DEPTH`), the most cells (1 to `MOST_CELLS`), and the most witnesses of a cell
+/// (1 to `MOST_WITNESSES`); the product of the last two is at most `MOST_PRODUCT`.
 #[derive(Clone, Copy, Debug, PartialEq, Eq, Drop)]
 pub struct Limits {
     depth: u32,
@@ -38,8 +50,10 @@ impl Limits {
         ensures some { IfSome result (λ l. l ≡ record { depth = depth; cells = cells; wits = wits }) }
         ensures none { IfNone result (IsBudget (record { depth = depth; cells = cells; wits = wits }) → ⊥) }
     {
-        let in_range = depth <= 48 && cells >= 1 && cells <= 65536 && wits >= 1 && wits <= 16384;
-        if !in_range || wits as u64 * cells as u64 > 1 << 22 {
+        if depth > MOST_DEPTH || cells < 1 || cells > MOST_CELLS || wits < 1 || wits > MOST_WITNESSES {
+            return None;
+        }
+        if u64::from(wits) * u64::from(cells) > MOST_PRODUCT {
             return None;
         }
         Some(Limits { depth, cells, wits })

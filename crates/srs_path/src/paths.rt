@@ -1,7 +1,9 @@
 // Paths to the cells of a tree of cuts.
-ghost use Rattle.std.specs.Prelude.{◌≡◌, ◌<◌, ◌≤◌, [], ◌∷◌, ◌++◌, length, slice_get, Some, MatchOption, IsSome};
+ghost use Rattle.std.specs.Prelude.{◌≡◌, ◌<◌, ◌≤◌, [], ◌∷◌, ◌++◌, length, slice_get, Some, ◌↔◌, IsTrue, MatchOption, IsSome};
+ghost use Rattle.srs_path.specs.declared.limits.TheConstants.{MOST_DEPTH};
 ghost use Rattle.srs_path.specs.declared.paths.Side.{Side};
 
+use crate::MOST_DEPTH;
 use std::marker::Model;
 
 /// The side of a cut that a cell is on: where the form is at least 0, or where it is below 0.
@@ -11,12 +13,10 @@ pub enum Side {
     Lt,
 }
 
-const MOST: u8 = 48;
-
 // Past the last of its sides a path has this one, so that equal paths are equal arrays.
 const PAD: Side = Side::Ge;
 
-/// The sides of the cuts that lead from the root to a cell: at most 48.
+/// The sides of the cuts that lead from the root to a cell: at most `MOST_DEPTH`.
 #[derive(Clone, Copy, Debug, PartialEq, Eq, Drop)]
 pub struct Path {
     sides: [Side; 48],
@@ -50,10 +50,10 @@ impl Path {
         }
     }
 
-    /// How many sides it has: 0 to 48.
+    /// How many sides it has: 0 to `MOST_DEPTH`.
     pub fn len(&self) -> u32
         ensures len { result ≡ length self.now }
-        ensures short { result ≤ 48 }
+        ensures short { result ≤ MOST_DEPTH }
     {
         self.len as u32
     }
@@ -79,12 +79,12 @@ impl Path {
         Some(Path { sides, len })
     }
 
-    /// The path with one side more. `None` exactly where it has 48.
+    /// The path with one side more. `None` exactly where it has `MOST_DEPTH`.
     pub fn child(&self, s: Side) -> Option<Path>
-        ensures child { MatchOption result (length self.now ≡ 48) (λ p. p ≡ self.now ++ s ∷ []) }
-        ensures room { IsSome result → length self.now < 48 }
+        ensures child { MatchOption result (length self.now ≡ MOST_DEPTH) (λ p. p ≡ self.now ++ s ∷ []) }
+        ensures room { IsSome result → length self.now < MOST_DEPTH }
     {
-        if self.len == MOST {
+        if self.len as u32 == MOST_DEPTH {
             return None;
         }
         let mut sides = self.sides;
@@ -93,5 +93,12 @@ impl Path {
             sides,
             len: self.len + 1,
         })
+    }
+
+    /// Whether both are the same path.
+    pub fn same(&self, other: &Path) -> bool
+        ensures { IsTrue result ↔ (self.now ≡ other.now) }
+    {
+        self == other
     }
 }

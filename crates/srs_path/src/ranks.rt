@@ -3,14 +3,18 @@ ghost use Rattle.std.specs.Prelude.{◌≡◌, ◌↔◌, ◌<◌, pos, ◌≤�
 ghost use Rattle.srs_map.specs.Step.{IsNarrow};
 ghost use Rattle.srs_path.specs.Core.{Precedes};
 ghost use Rattle.srs_path.specs.Lists.{MakesRanks, IsRankList, ranked};
+ghost use Rattle.srs_path.specs.declared.limits.TheConstants.{MOST_WITNESSES};
 
+use crate::MOST_WITNESSES;
 use crate::cycles::copy_of;
+use srs_map::is_narrow;
 use srs_num::{NoMemory, Pairs, V2};
 use srs_text::Nums;
 use std::alloc::Global;
 use std::marker::Model;
 
-/// Pairs with their ranks: 1 to 16384 of them, pairs strictly ascending with entries within 2^37, ranks 0 to 16384.
+/// Pairs with their ranks: 1 to `MOST_WITNESSES` of them, pairs strictly ascending with entries within `MOST_ENTRY`, ranks
+/// 0 to `MOST_WITNESSES`.
 #[derive(Drop)]
 pub struct Ranks {
     pairs: Pairs,
@@ -28,8 +32,6 @@ impl Model for Ranks {
 
     ghost invariant = { λ r. MakesRanks r.pairs r.ranks };
 }
-
-const MOST: u64 = 16384;
 
 impl Ranks {
     /// `None` exactly where the two lists make no such list. It takes no memory.
@@ -50,7 +52,7 @@ impl Ranks {
         ensures { IfOk result (λ r. r ≡ self.now) }
     {
         Ok(Ranks {
-            pairs: same_pairs(alloc, &self.pairs)?,
+            pairs: Pairs::from_slice(alloc, self.pairs.as_slice())?,
             ranks: copy_of(alloc, &self.ranks)?,
         })
     }
@@ -88,24 +90,11 @@ fn place_of(pairs: &[V2], w: &V2) -> Option<usize>
     pairs.binary_search(w).ok()
 }
 
-// The same pairs, in memory of their own.
-fn same_pairs(alloc: Global, pairs: &Pairs) -> Result<Pairs, NoMemory>
-    ensures { IfOk result (λ copy. copy ≡ pairs.now) }
-{
-    let mut copy = Pairs::new(alloc);
-    for pair in pairs.as_slice() {
-        if copy.push(*pair).is_err() {
-            return Err(NoMemory);
-        }
-    }
-    Ok(copy)
-}
-
 fn makes_ranks(pairs: &Pairs, ranks: &Nums) -> bool
     ensures { IsTrue result ↔ MakesRanks pairs.now ranks.now }
 {
     let count = pairs.len();
-    if count != ranks.len() || count == 0 || count > MOST {
+    if count != ranks.len() || count == 0 || count > u64::from(MOST_WITNESSES) {
         return false;
     }
     if !all_narrow(pairs) {
@@ -120,14 +109,7 @@ fn makes_ranks(pairs: &Pairs, ranks: &Nums) -> bool
 fn all_narrow(pairs: &Pairs) -> bool
     ensures { IsTrue result ↔ All IsNarrow pairs.now }
 {
-    pairs.as_slice().iter().all(is_narrow)
-}
-
-fn is_narrow(w: &V2) -> bool
-    ensures { IsTrue result ↔ IsNarrow w.now }
-{
-    const MOST: i64 = 1 << 37;
-    -MOST <= w.a && w.a <= MOST && -MOST <= w.b && w.b <= MOST
+    pairs.as_slice().iter().all(|w| is_narrow(*w))
 }
 
 // Whether each pair stands before the next one.
@@ -149,13 +131,13 @@ fn precedes(v: &V2, w: &V2) -> bool
 }
 
 fn all_ranks(ranks: &Nums) -> bool
-    ensures { IsTrue result ↔ All (λ z. (pos 0 ≤ℤ z) × (z ≤ℤ pos 16384)) ranks.now }
+    ensures { IsTrue result ↔ All (λ z. (pos 0 ≤ℤ z) × (z ≤ℤ pos MOST_WITNESSES)) ranks.now }
 {
     ranks.as_slice().iter().all(|z| is_rank(*z))
 }
 
 fn is_rank(z: i64) -> bool
-    ensures { IsTrue result ↔ ((pos 0 ≤ℤ z) × (z ≤ℤ pos 16384)) }
+    ensures { IsTrue result ↔ ((pos 0 ≤ℤ z) × (z ≤ℤ pos MOST_WITNESSES)) }
 {
-    0 <= z && z <= 16384
+    0 <= z && z <= i64::from(MOST_WITNESSES)
 }

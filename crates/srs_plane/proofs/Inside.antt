@@ -95,7 +95,7 @@ middle_deep : (vs : List Vertex) → IsPolygon vs → IsPoint (middle_of vs)
 unfolding plus middle_of
 middle_deep vs polygon =
     let many : 3 ≤ length vs = polygon.counted.0 in
-    deep _ _ _ (polygon.shallow 0 (omega arith)).d_low (polygon.shallow 1 (omega arith)).d_low (polygon.shallow 2 (omega arith)).d_low
+    deep _ _ _ (polygon.small 0 (omega arith)).d_low (polygon.small 1 (omega arith)).d_low (polygon.small 2 (omega arith)).d_low
   where
     deep : (a b c : ℤ) → pos 1 ≤ℤ a → pos 1 ≤ℤ b → pos 1 ≤ℤ c → pos 1 ≤ℤ (a +ℤ (b +ℤ c))
     deep a b c h k l = omega (arith, linear)

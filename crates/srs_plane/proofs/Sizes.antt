@@ -16,9 +16,9 @@ pub record IsSmall (v : Vertex) : Type 0 where
 
 pub small : (v : Vertex) → IsPlaced v → IsSmall v
 small v placed = record {
-  p_range = coordinate v.p v.d placed.shallow.d_low placed.shallow.d_high placed.near.p_low placed.near.p_high;
-  q_range = coordinate v.q v.d placed.shallow.d_low placed.shallow.d_high placed.near.q_low placed.near.q_high;
-  d_range = denominator v.d placed.shallow.d_low placed.shallow.d_high;
+  p_range = coordinate v.p v.d placed.small.d_low placed.small.d_high placed.near.p_low placed.near.p_high;
+  q_range = coordinate v.q v.d placed.small.d_low placed.small.d_high placed.near.q_low placed.near.q_high;
+  d_range = denominator v.d placed.small.d_low placed.small.d_high;
 }
   where
     coordinate : (p d : ℤ) → pos 1 ≤ℤ d → d ≤ℤ pos 65536 → neg_ℤ (pos 4 *ℤ d) ≤ℤ p → p ≤ℤ (pos 4 *ℤ d) → IsWithin (2 ^ 18) p
@@ -32,7 +32,7 @@ pub placed_sized : (v : Vertex) → IsPlaced v → IsPtSized (point_of v)
 placed_sized v placed =
     let s = small v placed in
     record {
-      is_point = placed.shallow.d_low;
+      is_point = placed.small.d_low;
       d_range = within_more v.d _ (2 ^ 40) s.d_range (lit≤ tt);
       p_range = within_more v.p _ (2 ^ 42) s.p_range (lit≤ tt);
       q_range = within_more v.q _ (2 ^ 42) s.q_range (lit≤ tt);

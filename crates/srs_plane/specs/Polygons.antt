@@ -7,6 +7,7 @@ use Rattle.srs_plane.specs.declared.halves.Kind.TheVariants.{Ge}
 use Rattle.srs_plane.specs.declared.polygons.Vertex.{Vertex}
 use Rattle.srs_plane.specs.declared.polygons.PolyErr.{PolyErr}
 use Rattle.srs_plane.specs.declared.polygons.PolyErr.TheVariants.{Few, Many, Big, Far, Turn, NoMemory}
+use Rattle.srs_plane.specs.declared.polygons.TheConstants.{MOST_VERTICES, MOST_VERTEX_DENOMINATOR}
 use Rattle.srs_plane.specs.Regions.{Area}
 
 -- where a vertex stands
@@ -21,10 +22,10 @@ vertex_at vs i = slice_index_or vs (i % length vs) (record { p = pos 0; q = pos 
 abbrev pub edge_at : List Vertex → ℕ → LinearForm
 edge_at vs i = edge_form (point_of (vertex_at vs i)) (point_of (vertex_at vs (i + 1)))
 
--- d is 1 to 65536
-pub record IsShallow (v : Vertex) : Type 0 where
+-- the denominator is one that a vertex may have
+pub record HasSmallDenominator (v : Vertex) : Type 0 where
   pub d_low : pos 1 ≤ℤ v.d
-  pub d_high : v.d ≤ℤ pos 65536
+  pub d_high : v.d ≤ℤ MOST_VERTEX_DENOMINATOR
 
 -- vertex j is neither end of the edge from vertex i
 pub record IsOffEdge (vs : List Vertex) (i j : ℕ) : Type 0 where
@@ -40,22 +41,22 @@ TurnsLeft vs i = (j : ℕ) → IsOffEdge vs i j → pos 0 <ℤ value (edge_at vs
 abbrev pub TurnsWrong : List Vertex → ℕ → Type 0
 TurnsWrong vs i = (j : ℕ) × IsOffEdge vs i j × (value (edge_at vs i) (point_of (vertex_at vs j)) ≤ℤ pos 0)
 
--- 3 to 16 vertices
+-- three vertices at least and not more than a polygon may have
 abbrev pub IsCounted : List Vertex → Type 0
-IsCounted vs = (3 ≤ length vs) × (length vs ≤ 16)
+IsCounted vs = (3 ≤ length vs) × (length vs ≤ MOST_VERTICES)
 
--- the first n vertices have d from 1 to 65536
-abbrev pub AreShallow : List Vertex → ℕ → Type 0
-AreShallow vs n = (k : ℕ) → k < n → IsShallow (vertex_at vs k)
+-- the first n vertices have such denominators
+abbrev pub HaveSmallDenominators : List Vertex → ℕ → Type 0
+HaveSmallDenominators vs n = (k : ℕ) → k < n → HasSmallDenominator (vertex_at vs k)
 
 -- the first n vertices have |x|, |y| at most 4
 abbrev pub AreNear : List Vertex → ℕ → Type 0
 AreNear vs n = (k : ℕ) → k < n → IsNear (point_of (vertex_at vs k))
 
--- 3 to 16 vertices with d from 1 to 65536 and |x|, |y| at most 4, and at each edge all others strictly to the left
+-- so many vertices with such denominators and |x|, |y| at most 4, and at each edge all others strictly to the left
 pub record IsPolygon (vs : List Vertex) : Type 0 where
   pub counted : IsCounted vs
-  pub shallow : AreShallow vs (length vs)
+  pub small : HaveSmallDenominators vs (length vs)
   pub near : AreNear vs (length vs)
   pub left : (i : ℕ) → i < length vs → TurnsLeft vs i
 
@@ -63,11 +64,11 @@ pub record IsPolygon (vs : List Vertex) : Type 0 where
 -- first vertex too far off, then the first edge with another vertex that isn't strictly to its left
 abbrev pub IsPolygonErr : List Vertex → PolyErr → Type 0
 IsPolygonErr vs Few = length vs < 3
-IsPolygonErr vs Many = 16 < length vs
-IsPolygonErr vs (Big i) = IsCounted vs × (i < length vs) × AreShallow vs i × (IsShallow (vertex_at vs i) → ⊥)
-IsPolygonErr vs (Far i) = IsCounted vs × AreShallow vs (length vs) × (i < length vs) × AreNear vs i × (IsNear (point_of (vertex_at vs i)) → ⊥)
+IsPolygonErr vs Many = MOST_VERTICES < length vs
+IsPolygonErr vs (Big i) = IsCounted vs × (i < length vs) × HaveSmallDenominators vs i × (HasSmallDenominator (vertex_at vs i) → ⊥)
+IsPolygonErr vs (Far i) = IsCounted vs × HaveSmallDenominators vs (length vs) × (i < length vs) × AreNear vs i × (IsNear (point_of (vertex_at vs i)) → ⊥)
 IsPolygonErr vs (Turn i) =
-    IsCounted vs × AreShallow vs (length vs) × AreNear vs (length vs) × (i < length vs) × ((k : ℕ) → k < i → TurnsLeft vs k) × TurnsWrong vs i
+    IsCounted vs × HaveSmallDenominators vs (length vs) × AreNear vs (length vs) × (i < length vs) × ((k : ℕ) → k < i → TurnsLeft vs k) × TurnsWrong vs i
 IsPolygonErr vs NoMemory = ⊤
 
 -- the region of a polygon: the left of each edge, with the edge where it is closed

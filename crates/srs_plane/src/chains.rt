@@ -88,20 +88,14 @@ pub(crate) fn longer(alloc: Global, chain: &Arc<Chain>, h: Half) -> Result<Arc<C
 fn made(alloc: Global, chain: Chain) -> Result<Arc<Chain>, NoMemory>
     ensures { IfOk result (λ shared. arc_value shared ≡ chain) }
 {
-    match Arc::new(alloc, chain) {
-        Ok(shared) => Ok(shared),
-        Err(_) => Err(NoMemory),
-    }
+    Ok(Arc::new(alloc, chain)?)
 }
 
 // One owner more.
 pub(crate) fn owned(chain: &Arc<Chain>) -> Result<Arc<Chain>, NoMemory>
     ensures { IfOk result (λ copy. arc_value copy ≡ arc_value chain.now) }
 {
-    match Arc::try_clone(chain) {
-        Ok(copy) => Ok(copy),
-        Err(_) => Err(NoMemory),
-    }
+    Ok(Arc::try_clone(chain)?)
 }
 
 // The half number `i` of the `count` halves.

@@ -11,6 +11,6 @@ mod vertices;
 pub use chains::Halves;
 pub use halves::{Half, Kind};
 pub use laws::convexity;
-pub use polygons::{PolyErr, Vertex, polygon};
-pub use regions::Region;
+pub use polygons::{MOST_VERTEX_DENOMINATOR, MOST_VERTICES, PolyErr, Vertex, polygon};
+pub use regions::{MOST_HALVES, Region};
 pub use vertices::Vertices;

@@ -3,7 +3,7 @@ ghost use Rattle.std.specs.Prelude.{◌≡◌, ◌≢◌, ◌+◌, ◌%◌, ◌<
 ghost use Rattle.std.specs.Bool.{MatchBool};
 ghost use Rattle.srs_num.specs.Points.{value, IsNear, IsWithin};
 ghost use Rattle.srs_num.specs.Lines.{edge_form};
-ghost use Rattle.srs_plane.specs.Polygons.{point_of, vertex_at, edge_at, IsShallow, TurnsLeft, TurnsWrong, IsCounted, AreShallow, AreNear, IsPolygon, IsPolygonErr, region_of};
+ghost use Rattle.srs_plane.specs.Polygons.{point_of, vertex_at, edge_at, HasSmallDenominator, TurnsLeft, TurnsWrong, IsCounted, HaveSmallDenominators, AreNear, IsPolygon, IsPolygonErr, region_of};
 ghost use Rattle.srs_plane.specs.Placed.{IsPlaced};
 ghost use Rattle.srs_plane.specs.Regions.{HasPoint};
 
@@ -11,6 +11,12 @@ use crate::{Half, Kind, Region};
 use srs_num::{Form, NoMemory, Pt};
 use std::alloc::Global;
 use thiserror::Error;
+
+/// The most vertices of a polygon.
+pub const MOST_VERTICES: usize = 16;
+
+/// The most that the denominator of a vertex may be.
+pub const MOST_VERTEX_DENOMINATOR: i64 = 65536;
 
 /// The corner `(p / d, q / d)` of a polygon; `kind` belongs to the edge from here to the next vertex.
 #[derive(Clone, Copy, Debug, PartialEq, Eq, Drop)]
@@ -22,11 +28,11 @@ pub struct Vertex {
 }
 
 impl Vertex {
-    /// Whether the denominator is 1 to 65536 and both coordinates are at most 4 in magnitude. It takes no memory.
+    /// Whether the denominator is 1 to `MOST_VERTEX_DENOMINATOR` and both coordinates are at most 4 in magnitude. It takes no memory.
     pub fn is_placed(&self) -> bool
         ensures { IsTrue result ↔ IsPlaced self.now }
     {
-        if !is_shallow(self) {
+        if !has_small_denominator(self) {
             return false;
         }
         is_near(self)
@@ -79,7 +85,7 @@ fn region_inside(alloc: Global, vs: &[Vertex]) -> Result<Region, PolyErr>
     }
 }
 
-// 3 to 16 vertices.
+// 3 to `MOST_VERTICES` vertices.
 fn check_count(vs: &[Vertex]) -> Result<(), PolyErr>
     ensures ok { OnOk result (IsCounted vs.now) }
     ensures err { IfErr result (λ e. IsPolygonErr vs.now e) }
@@ -87,20 +93,20 @@ fn check_count(vs: &[Vertex]) -> Result<(), PolyErr>
     if vs.len() < 3 {
         return Err(PolyErr::Few);
     }
-    if vs.len() > 16 {
+    if vs.len() > MOST_VERTICES {
         return Err(PolyErr::Many);
     }
     Ok(())
 }
 
-// Each denominator is 1 to 65536.
+// Each denominator is 1 to `MOST_VERTEX_DENOMINATOR`.
 fn check_denominators(vs: &[Vertex]) -> Result<(), PolyErr>
     requires { IsCounted vs.now }
-    ensures ok { OnOk result (AreShallow vs.now (length vs.now)) }
+    ensures ok { OnOk result (HaveSmallDenominators vs.now (length vs.now)) }
     ensures err { IfErr result (λ e. IsPolygonErr vs.now e) }
 {
     for i in 0..vs.len() {
-        if !is_shallow(nth_vertex(vs, i)) {
+        if !has_small_denominator(nth_vertex(vs, i)) {
             return Err(PolyErr::Big(i as u32));
         }
     }
@@ -110,7 +116,7 @@ fn check_denominators(vs: &[Vertex]) -> Result<(), PolyErr>
 // Each vertex is near.
 fn check_distances(vs: &[Vertex]) -> Result<(), PolyErr>
     requires counted { IsCounted vs.now }
-    requires shallow { AreShallow vs.now (length vs.now) }
+    requires small { HaveSmallDenominators vs.now (length vs.now) }
     ensures ok { OnOk result (AreNear vs.now (length vs.now)) }
     ensures err { IfErr result (λ e. IsPolygonErr vs.now e) }
 {
@@ -125,7 +131,7 @@ fn check_distances(vs: &[Vertex]) -> Result<(), PolyErr>
 // Each edge has all other vertices strictly to its left.
 fn check_turns(vs: &[Vertex]) -> Result<(), PolyErr>
     requires counted { IsCounted vs.now }
-    requires shallow { AreShallow vs.now (length vs.now) }
+    requires small { HaveSmallDenominators vs.now (length vs.now) }
     requires near { AreNear vs.now (length vs.now) }
     ensures ok { OnOk result (IsPolygon vs.now) }
     ensures err { IfErr result (λ e. IsPolygonErr vs.now e) }
@@ -141,7 +147,7 @@ fn check_turns(vs: &[Vertex]) -> Result<(), PolyErr>
 // Whether each other vertex is strictly to the left of the edge from vertex `i`.
 fn turns_left(vs: &[Vertex], i: usize) -> bool
     requires there { i < length vs.now }
-    requires shallow { AreShallow vs.now (length vs.now) }
+    requires small { HaveSmallDenominators vs.now (length vs.now) }
     requires near { AreNear vs.now (length vs.now) }
     ensures { MatchBool result (TurnsLeft vs.now i) (TurnsWrong vs.now i) }
 {
@@ -178,7 +184,7 @@ fn sides(alloc: Global, vs: &[Vertex]) -> Result<Vec<Half>, PolyErr>
 // The form of the edge from vertex `i` to the next one.
 fn edge(vs: &[Vertex], i: usize) -> Form
     requires there { i < length vs.now }
-    requires shallow { AreShallow vs.now (length vs.now) }
+    requires small { HaveSmallDenominators vs.now (length vs.now) }
     requires near { AreNear vs.now (length vs.now) }
     ensures { result ≡ edge_at vs.now i }
 {
@@ -193,14 +199,14 @@ fn nth_vertex(vs: &[Vertex], i: usize) -> &Vertex
     &vs[i]
 }
 
-fn is_shallow(v: &Vertex) -> bool
-    ensures { IsTrue result ↔ IsShallow v.now }
+fn has_small_denominator(v: &Vertex) -> bool
+    ensures { IsTrue result ↔ HasSmallDenominator v.now }
 {
-    1 <= v.d && v.d <= 65536
+    1 <= v.d && v.d <= MOST_VERTEX_DENOMINATOR
 }
 
 fn is_near(v: &Vertex) -> bool
-    requires { IsShallow v.now }
+    requires { HasSmallDenominator v.now }
     ensures { IsTrue result ↔ IsNear (point_of v.now) }
 {
     match Pt::new(v.p, v.q, v.d) {

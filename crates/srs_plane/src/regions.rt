@@ -6,6 +6,7 @@ ghost use Rattle.srs_plane.specs.Regions.{IsIn, IsInHalf};
 ghost use Rattle.srs_plane.specs.Bounded.{IsBounded};
 ghost use Rattle.std.specs.Arc.{arc_value};
 ghost use Rattle.srs_plane.specs.Chains.{halves_of};
+ghost use Rattle.srs_plane.specs.declared.regions.TheConstants.{MOST_HALVES};
 
 use crate::Half;
 use crate::chains::{Chain, Halves, all_hold, are_same, first, has_corner, longer, nth, owned};
@@ -15,7 +16,10 @@ use std::marker::Model;
 use std::sync::Arc;
 use std::sync::ledger::Ledger;
 
-/// A convex region: the points in all of its 3 to 80 halves. Each has `|x| <= 4` and `|y| <= 4`. It shares its halves
+/// The most halves of a region: 16 of a polygon, 16 of one that is asked about, and 48 cuts.
+pub const MOST_HALVES: u32 = 80;
+
+/// A convex region: the points in all of its 3 to `MOST_HALVES` halves. Each has `|x| <= 4` and `|y| <= 4`. It shares its halves
 /// with its copies, and all but the last with the region that it was made from.
 #[derive(Drop)]
 pub struct Region {
@@ -50,11 +54,11 @@ impl Region {
         })
     }
 
-    /// How many halves it has: 3 to 80.
+    /// How many halves it has: 3 to `MOST_HALVES`.
     pub fn len(&self) -> u32
         ensures value { result ≡ length self.now }
         ensures low { 3 ≤ result }
-        ensures high { result ≤ 80 }
+        ensures high { result ≤ MOST_HALVES }
         ensures near { (r : Point) → IsIn self.now r → IsNear r }
     {
         self.count
@@ -82,9 +86,9 @@ impl Region {
         self.count == other.count && are_same(&self.chain, &other.chain, self.count)
     }
 
-    /// The region with the half appended, for a region of fewer than 80 halves.
+    /// The region with the half appended, for a region of fewer than `MOST_HALVES` halves.
     pub fn with(&self, alloc: Global, h: Half) -> Result<Region, NoMemory>
-        requires { length self.now < 80 }
+        requires { length self.now < MOST_HALVES }
         ensures { IfOk result (λ region. region ≡ self.now ++ h ∷ []) }
     {
         Ok(Region {

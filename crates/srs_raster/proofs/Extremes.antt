@@ -54,7 +54,7 @@ ceiling_within m n d k h c low high =
 module _ (vs : List Vertex) (polygon : IsPolygon vs) where
   -- each vertex is placed
   pub placed : (i : ℕ) (d : Vertex) → i < length vs → IsPlaced (get_or vs i d)
-  placed i d l = subst IsPlaced (sym (vertex_at-within vs i d l)) (record { shallow = polygon.shallow i l; near = polygon.near i l })
+  placed i d l = subst IsPlaced (sym (vertex_at-within vs i d l)) (record { small = polygon.small i l; near = polygon.near i l })
 
   -- a vertex that was read
   pub read : (i : ℕ) (d : Vertex) → i < length vs → get_or vs i d ≡ get_or vs i (get_or vs i d)
@@ -84,7 +84,7 @@ module _ (vs : List Vertex) (polygon : IsPolygon vs) where
     highest_first u k i l e ceiling = record { ceiling = (u, member i u l e, ceiling); above = λ j w m. absurd (omega arith) }
 
     not_negative : (j : ℕ) (w : Vertex) → j < length vs → get_or vs j w ≡ w → pos 0 ≤ℤ w.d
-    not_negative j w l e = low w.d (placed_at j w l (sym e)).shallow.d_low
+    not_negative j w l e = low w.d (placed_at j w l (sym e)).small.d_low
       where
         low : (d : ℤ) → pos 1 ≤ℤ d → pos 0 ≤ℤ d
         low d h = omega (arith, linear)

@@ -5,6 +5,7 @@ ghost use Rattle.srs_path.specs.Witnesses.{IsSmall};
 ghost use Rattle.srs_path.specs.ChosenCycle.{IsChosen};
 ghost use Rattle.srs_path.specs.Refinement.{StaysOpen, Refines};
 ghost use Rattle.srs_wit.specs.Listing.{AreAllWitnesses};
+ghost use Rattle.srs_path.specs.declared.limits.TheConstants.{MOST_WITNESSES};
 
 use srs_cell::Cell;
 use srs_cut::{Judged, judge};
@@ -37,7 +38,7 @@ impl Refiner {
         w: u32,
     ) -> Result<Finding, NoMemory>
         requires some { 1 ≤ w }
-        requires few { w ≤ 16384 }
+        requires few { w ≤ MOST_WITNESSES }
         ensures region { IfOk result (λ finding. finding.region ≡ cell.now) }
         ensures w { IfOk result (λ finding. finding.w ≡ w) }
         ensures outcome { IfOk result (λ finding. Refines cell.now last w finding.outcome) }
@@ -48,14 +49,14 @@ impl Refiner {
     }
 }
 
-/// The outcome of the cell, for a bound `w` from 1 to 16384 on its witnesses, where `last` is the limit that is spent.
+/// The outcome of the cell, for a bound `w` from 1 to `MOST_WITNESSES` on its witnesses, where `last` is the limit that is spent.
 ///
 /// A small cell is inside where its core is empty, and outside where its chosen cycle covers it. Any other cell is left
 /// where a limit is spent. Else a small one is cut by the first form of its cutout that divides it, and one that isn't
 /// small by its first grid line; with no such line it is left as thin. An `Err` is want of memory.
 pub fn refine(alloc: Global, cell: &Cell, last: Option<Last>, w: u32) -> Result<Finding, NoMemory>
     requires some { 1 ≤ w }
-    requires few { w ≤ 16384 }
+    requires few { w ≤ MOST_WITNESSES }
     ensures region { IfOk result (λ finding. finding.region ≡ cell.now) }
     ensures w { IfOk result (λ finding. finding.w ≡ w) }
     ensures outcome { IfOk result (λ finding. Refines cell.now last w finding.outcome) }
@@ -73,7 +74,7 @@ fn outcome_of(
     w: u32,
 ) -> Result<Outcome, NoMemory>
     requires some { 1 ≤ w }
-    requires few { w ≤ 16384 }
+    requires few { w ≤ MOST_WITNESSES }
     ensures { IfOk result (Refines cell.now last w) }
 {
     match searcher.small_witnesses(alloc, cell, w)? {
@@ -89,7 +90,7 @@ fn of_small(
     set: &WitSet,
     last: Option<Last>,
 ) -> Result<Outcome, NoMemory>
-    requires small { IsSmall cell.now 16384 }
+    requires small { IsSmall cell.now MOST_WITNESSES }
     requires all { AreAllWitnesses cell.now set.now }
     ensures { (W : ℕ) → IsSmall cell.now W → IfOk result (Refines cell.now last W) }
 {

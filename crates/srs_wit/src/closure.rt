@@ -7,6 +7,7 @@ ghost use Rattle.srs_path.specs.Witnesses.{IsWitness, IsSmall};
 ghost use Rattle.srs_wit.specs.Listing.{AreAllWitnesses, AreTooMany, IsExcess};
 ghost use Rattle.srs_wit.specs.Halves.{AreNarrow, count_both, with_opposites};
 ghost use Rattle.srs_wit.specs.Search.{AreHalf, AreFound, Adds, Extends, IsClosedAt, HasUnits, AreAll, IsStop};
+ghost use Rattle.srs_path.specs.declared.limits.TheConstants.{MOST_WITNESSES};
 
 use crate::halves::{upper, with_opposites};
 use crate::pair_set::PairSet;
@@ -75,13 +76,10 @@ impl Search {
     {
         let room = (bound as usize / 2 + 1).min(ROOM);
         let found = PairSet::new(alloc, room, side_of(bound))?;
-        let Ok(waiting) = Vec::with_capacity(alloc, room) else {
-            return Err(NoMemory);
-        };
         Ok(Search {
             found,
             origin: false,
-            waiting,
+            waiting: Vec::with_capacity(alloc, room)?,
         })
     }
 
@@ -162,15 +160,10 @@ impl Search {
             self.origin = true;
             return Ok(());
         };
-        match self.found.insert(u) {
-            Ok(true) => {}
-            Ok(false) => return Ok(()),
-            Err(_) => return Err(NoMemory),
+        if self.found.insert(u)? {
+            self.waiting.push(u)?;
         }
-        match self.waiting.push(u) {
-            Ok(()) => Ok(()),
-            Err(_) => Err(NoMemory),
-        }
+        Ok(())
     }
 
     // Adds the units.
@@ -241,21 +234,18 @@ impl Search {
         requires { AreNarrow self.now.found }
         ensures { (R : Area) (W : ℕ) → AreAll R W self.now.found self.now.origin → IfOk result (λ all. AreAllWitnesses R all.items) }
     {
-        let mut half = match Vec::from_slice(alloc, self.found.as_slice()) {
-            Ok(half) => half,
-            Err(_) => return Err(NoMemory),
-        };
+        let mut half = Vec::from_slice(alloc, self.found.as_slice())?;
         half.sort_unstable();
         with_opposites(alloc, &half, self.origin)
     }
 }
 
-/// The witnesses of the cell, for a bound `w` from 1 to 16384 on their number.
+/// The witnesses of the cell, for a bound `w` from 1 to `MOST_WITNESSES` on their number.
 ///
 /// `Large` exactly where the cell isn't small: it carries one more witness than the bound, or one past 2^37.
 pub fn witnesses(alloc: Global, cell: &Cell, w: u32) -> Result<WitSet, WitErr>
     requires some { 1 ≤ w }
-    requires few { w ≤ 16384 }
+    requires few { w ≤ MOST_WITNESSES }
     ensures list { IfOk result (AreAllWitnesses cell.now) }
     ensures small { OnOk result (IsSmall cell.now w) }
     ensures large { IfErr result (IsExcess cell.now w) }
@@ -293,7 +283,7 @@ impl Searcher {
         w: u32,
     ) -> Result<Option<WitSet>, NoMemory>
         requires some { 1 ≤ w }
-        requires few { w ≤ 16384 }
+        requires few { w ≤ MOST_WITNESSES }
         ensures list { IfOk result (λ found. IfSome found (AreAllWitnesses cell.now)) }
         ensures small { IfOk result (λ found. MatchOption found (IsSmall cell.now w → ⊥) (λ _. IsSmall cell.now w)) }
     {
@@ -306,11 +296,11 @@ impl Searcher {
     }
 }
 
-/// The witnesses of the cell, for a bound `w` from 1 to 16384 on their number, or `None` exactly where the cell isn't
+/// The witnesses of the cell, for a bound `w` from 1 to `MOST_WITNESSES` on their number, or `None` exactly where the cell isn't
 /// small. It is the call for whoever asks for nothing that shows this: of a cell that isn't small it lists no witness.
 pub fn small_witnesses(alloc: Global, cell: &Cell, w: u32) -> Result<Option<WitSet>, NoMemory>
     requires some { 1 ≤ w }
-    requires few { w ≤ 16384 }
+    requires few { w ≤ MOST_WITNESSES }
     ensures list { IfOk result (λ found. IfSome found (AreAllWitnesses cell.now)) }
     ensures small { IfOk result (λ found. MatchOption found (IsSmall cell.now w → ⊥) (λ _. IsSmall cell.now w)) }
 {

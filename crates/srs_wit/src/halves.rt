@@ -1,18 +1,11 @@
 // Pairs that stand for those on the other side of (0,0) too.
 ghost use Rattle.std.specs.Prelude.{◌≡◌, ◌∷◌, ◌++◌, [], OnOk, IfOk, MatchOption};
-ghost use Rattle.srs_map.specs.Step.{IsNarrow, origin, minus};
+ghost use Rattle.srs_map.specs.Step.{IsNarrow, origin};
 ghost use Rattle.srs_wit.specs.Halves.{AreNarrow, IsUpperOf, opposites, with_opposites};
 
+use srs_map::minus;
 use srs_num::{NoMemory, V2};
 use std::alloc::Global;
-
-// The pair on the other side.
-fn minus(w: V2) -> V2
-    requires { IsNarrow w }
-    ensures { result ≡ minus w }
-{
-    V2 { a: -w.a, b: -w.b }
-}
 
 // The one of the pair and the pair on the other side that comes after (0,0). `None` for (0,0).
 pub(crate) fn upper(v: V2) -> Option<V2>
@@ -32,10 +25,8 @@ pub(crate) fn upper(v: V2) -> Option<V2>
 fn add_pair(pairs: &mut Vec<V2>, w: V2) -> Result<(), NoMemory>
     ensures { OnOk result (pairs.new.items ≡ pairs.old.items ++ w ∷ []) }
 {
-    match pairs.push(w) {
-        Ok(()) => Ok(()),
-        Err(_) => Err(NoMemory),
-    }
+    pairs.push(w)?;
+    Ok(())
 }
 
 // The pairs on the other side, in reverse order.
@@ -43,9 +34,7 @@ fn opposites(alloc: Global, pairs: &[V2]) -> Result<Vec<V2>, NoMemory>
     requires { AreNarrow pairs.now }
     ensures { IfOk result (λ all. all.items ≡ opposites pairs.now) }
 {
-    let Ok(mut all) = Vec::with_capacity(alloc, pairs.len()) else {
-        return Err(NoMemory);
-    };
+    let mut all = Vec::with_capacity(alloc, pairs.len())?;
     for i in (0..pairs.len()).rev() {
         add_pair(&mut all, minus(pairs[i]))?;
     }
@@ -61,8 +50,6 @@ pub(crate) fn with_opposites(alloc: Global, pairs: &[V2], met: bool) -> Result<V
     if met {
         add_pair(&mut all, V2 { a: 0, b: 0 })?;
     }
-    match all.extend_from_slice(pairs) {
-        Ok(()) => Ok(all),
-        Err(_) => Err(NoMemory),
-    }
+    all.extend_from_slice(pairs)?;
+    Ok(all)
 }

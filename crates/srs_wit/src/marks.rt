@@ -27,10 +27,9 @@ impl MarkTable {
         ensures room { IfOk result (λ table. n ≤ 64 * vec_len table.words) }
         ensures none { (k : ℕ) → IfOk result (λ table. is_marked table.words.items k ≡ false) }
     {
-        match vec![in alloc; 0; n / 64 + 1] {
-            Ok(words) => Ok(MarkTable { words }),
-            Err(_) => Err(NoMemory),
-        }
+        Ok(MarkTable {
+            words: vec![in alloc; 0; n / 64 + 1]?,
+        })
     }
 
     // Takes all marks away.

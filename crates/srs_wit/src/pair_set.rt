@@ -90,15 +90,12 @@ impl PairSet {
         ensures { IfOk result (λ set. set ≡ []) }
     {
         let near = MarkTable::new(alloc, 2 * side * side)?;
-        match Vec::with_capacity(alloc, room) {
-            Ok(items) => Ok(PairSet {
-                items,
-                side,
-                near,
-                far: IndexSet::new(alloc),
-            }),
-            Err(_) => Err(NoMemory),
-        }
+        Ok(PairSet {
+            items: Vec::with_capacity(alloc, room)?,
+            side,
+            near,
+            far: IndexSet::new(alloc),
+        })
     }
 
     // Takes all of them out, and keeps the room.
@@ -137,10 +134,7 @@ impl PairSet {
         if self.near.has(k) {
             return Ok(false);
         }
-        match self.items.push(v) {
-            Ok(()) => {}
-            Err(_) => return Err(NoMemory),
-        }
+        self.items.push(v)?;
         self.near.mark(k);
         Ok(true)
     }

@@ -5,10 +5,9 @@ ghost use Rattle.srs_map.specs.Step.{IsNarrow};
 ghost use Rattle.srs_wit.specs.Spans.{place_in, pairs_from, ArePairsNarrow, IsWideAmong};
 
 use srs_cell::Span;
+use srs_map::MOST_ENTRY;
 use srs_num::{NoMemory, Pairs, V2};
 use std::alloc::Global;
-
-const WIDEST: i64 = 1 << 37;
 
 // Whether the first number of the span is greater in magnitude than the last one.
 pub(crate) fn is_downward(span: Span) -> bool
@@ -36,13 +35,13 @@ pub(crate) fn wide_end(w: V2, span: Span) -> Option<V2>
     if span.low > span.high {
         return None;
     }
-    if span.low < -WIDEST {
+    if span.low.unsigned_abs() > MOST_ENTRY {
         return Some(V2 {
             a: w.b,
             b: span.low,
         });
     }
-    if span.high > WIDEST {
+    if span.high.unsigned_abs() > MOST_ENTRY {
         return Some(V2 {
             a: w.b,
             b: span.high,
@@ -59,10 +58,7 @@ pub(crate) fn first_pairs(alloc: Global, w: V2, span: Span, n: u64) -> Result<Pa
 {
     let mut pairs = Pairs::new(alloc);
     for k in 0..n {
-        match pairs.push(span.pair(w, k)) {
-            Ok(()) => {}
-            Err(_) => return Err(NoMemory),
-        }
+        pairs.push(span.pair(w, k)).or(Err(NoMemory))?;
     }
     Ok(pairs)
 }

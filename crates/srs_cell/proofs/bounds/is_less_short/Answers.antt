@@ -15,6 +15,6 @@ returns c =
     let fd : FitsSigned w128 d = c.ranges.d in
     let fm : FitsSigned w128 m = c.ranges.m in
     let fe : FitsSigned w128 e = c.ranges.e in
-    let left : FitsSigned w128 (n *ℤ e) = small_fits w128 _ (2 ^ 79 * 2 ^ 38) (within_product n e (2 ^ 79) (2 ^ 38) c.requires.first_value c.requires.second_depth) (lit< tt) in
-    let right : FitsSigned w128 (m *ℤ d) = small_fits w128 _ (2 ^ 79 * 2 ^ 38) (within_product m d (2 ^ 79) (2 ^ 38) c.requires.second_value c.requires.first_depth) (lit< tt) in
+    let left : FitsSigned w128 (n *ℤ e) = small_fits w128 _ (2 ^ 79 * 2 ^ 38) (within_product n e (2 ^ 79) (2 ^ 38) c.requires.first_value c.requires.second_denominator) (lit< tt) in
+    let right : FitsSigned w128 (m *ℤ d) = small_fits w128 _ (2 ^ 79 * 2 ^ 38) (within_product m d (2 ^ 79) (2 ^ 38) c.requires.second_value c.requires.first_denominator) (lit< tt) in
     simp to_z-of_z (is_read_lt (n *ℤ e) (m *ℤ d))

@@ -27,19 +27,19 @@ loop-corner-preserved c =
     let old = c.loop-corner.invariant in
     let lt = c.loop-corner-test.true in
     let fn : FitsSigned w128 c.at_corner-num.result = search rules in
-    let fd : FitsSigned w128 c.depth-den.result = search rules in
+    let fd : FitsSigned w128 c.denominator-den.result = search rules in
     let fv : FitsSigned w128 c.value_of.result = search rules in
-    let fe : FitsSigned w128 c.depth.result = search rules in
+    let fe : FitsSigned w128 c.denominator.result = search rules in
     let test = simp to_z-of_z at c.is_less.ensures in
     let x = c.corner-item.result in
     let least = c.args.least.now in
     elim c.if-not-is_less.branch [
       | then-not-is_less w ↦ rw (w.total-is, w.plus-total.ensures) (
-        sum_grows f cs i _ _ _ lt c.corner-item.is old.0 c.requires.sized c.requires.least (no_test _ (λ h. test.1 (lower_to f least x _ _ _ _ c.at_corner-num.ensures c.depth-den.ensures c.value_of.ensures c.depth.ensures h)) w.if-not-is_less.true),
+        sum_grows f cs i _ _ _ lt c.corner-item.is old.0 c.requires.sized c.requires.least (no_test _ (λ h. test.1 (lower_to f least x _ _ _ _ c.at_corner-num.ensures c.denominator-den.ensures c.value_of.ensures c.denominator.ensures h)) w.if-not-is_less.true),
         sized_more (m + 2 ^ 77) (2 ^ 77 * (i + 1) + 2 ^ 77) _ (plus_sized m (2 ^ 77) _ _ old.1 (sized_at cs i _ lt c.corner-item.is c.requires.sized)) (omega arith),
       )
       | else-not-is_less w ↦ rw w.total-is (
-        sum_stays f cs i _ _ _ lt c.corner-item.is old.0 (lower_by f least x _ _ _ _ c.at_corner-num.ensures c.depth-den.ensures c.value_of.ensures c.depth.ensures (test.0 w.if-not-is_less.false)),
+        sum_stays f cs i _ _ _ lt c.corner-item.is old.0 (lower_by f least x _ _ _ _ c.at_corner-num.ensures c.denominator-den.ensures c.value_of.ensures c.denominator.ensures (test.0 w.if-not-is_less.false)),
         sized_more m (2 ^ 77 * (i + 1) + 2 ^ 77) _ old.1 (omega arith),
       )
     ]
@@ -49,9 +49,9 @@ is_less-requires-clause-short c = λ short.
     let cs = c.args.corners.now in
     let x = c.corner-item.result in
     let fn : FitsSigned w128 c.at_corner-num.result = search rules in
-    let fd : FitsSigned w128 c.depth-den.result = search rules in
+    let fd : FitsSigned w128 c.denominator-den.result = search rules in
     let fv : FitsSigned w128 c.value_of.result = search rules in
-    let fe : FitsSigned w128 c.depth.result = search rules in
+    let fe : FitsSigned w128 c.denominator.result = search rules in
     let here = All-contains (IsPointWithin (2 ^ 38)) cs x (c.requires.short short) (c.loop-corner.corner-index, c.loop-corner-test.true, sym c.corner-item.is) in
     let there = All-contains (IsPointWithin (2 ^ 38)) cs c.args.least.now (c.requires.short short) c.requires.least.among in
-    simp to_z-of_z (are_short c.args.form.now c.args.least.now x _ _ _ _ c.parts.ensures.sized there here c.at_corner-num.ensures c.depth-den.ensures c.value_of.ensures c.depth.ensures)
+    simp to_z-of_z (are_short c.args.form.now c.args.least.now x _ _ _ _ c.parts.ensures.sized there here c.at_corner-num.ensures c.denominator-den.ensures c.value_of.ensures c.denominator.ensures)

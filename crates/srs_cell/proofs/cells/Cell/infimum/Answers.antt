@@ -3,7 +3,7 @@ use Rattle.std.specs.Int.{w128}
 use Rattle.std.proofs.lemmas.Int.{to_z-of_z}
 use Rattle.srs_num.specs.Points.{IsPointWithin}
 use Rattle.srs_num.proofs.Ranges.{small_fits}
-use Rattle.srs_cell.proofs.Least.{sized_among, depth_fits}
+use Rattle.srs_cell.proofs.Least.{sized_among, denominator_fits}
 use Rattle.srs_cell.proofs.Infima.{infimum}
 use Rattle.srs_cell.proofs.cells.Cell.infimum.Goals as goal
 
@@ -13,8 +13,8 @@ returns-clause-positive c =
     let corner = c.least_corner-least.ensures in
     let least = c.least_corner-least.result in
     let sized : IsPointWithin (2 ^ 77) least = sized_among _ least cell.1.corners.sized corner.among in
-    let d : FitsSigned w128 c.depth.result = depth_fits _ least c.depth.ensures sized in
-    simp to_z-of_z (rw c.depth.ensures sized.is_point)
+    let d : FitsSigned w128 c.denominator.result = denominator_fits _ least c.denominator.ensures sized in
+    simp to_z-of_z (rw c.denominator.ensures sized.is_point)
 
 pub returns-clause-infimum : goal.returns-clause-infimum
 returns-clause-infimum c =
@@ -23,5 +23,5 @@ returns-clause-infimum c =
     let least = c.least_corner-least.result in
     let sized : IsPointWithin (2 ^ 77) least = sized_among _ least cell.1.corners.sized corner.among in
     let n : FitsSigned w128 c.value_at.result = small_fits w128 _ (2 ^ 117) c.value_at.ensures.sized (lit< tt) in
-    let d : FitsSigned w128 c.depth.result = depth_fits _ least c.depth.ensures sized in
-    simp to_z-of_z (rw (c.value_at.ensures.value, c.depth.ensures) (infimum c.args.self.now _ cell.0 cell.1 c.args.f.now least corner))
+    let d : FitsSigned w128 c.denominator.result = denominator_fits _ least c.denominator.ensures sized in
+    simp to_z-of_z (rw (c.value_at.ensures.value, c.denominator.ensures) (infimum c.args.self.now _ cell.0 cell.1 c.args.f.now least corner))

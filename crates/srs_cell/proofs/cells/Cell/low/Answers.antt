@@ -3,7 +3,7 @@ use Rattle.std.specs.Int.{w128}
 use Rattle.std.proofs.lemmas.Int.{to_z-of_z}
 use Rattle.srs_num.specs.Points.{IsPointWithin}
 use Rattle.srs_num.proofs.Ranges.{small_fits}
-use Rattle.srs_cell.proofs.Least.{sized_among, depth_fits}
+use Rattle.srs_cell.proofs.Least.{sized_among, denominator_fits}
 use Rattle.srs_cell.proofs.Infima.{low_is, bound_sized, least_in_halves}
 use Rattle.srs_cell.proofs.cells.Cell.low.Goals as goal
 
@@ -14,7 +14,7 @@ returns-clause-low c =
     let least = c.least_corner-least.result in
     let sized : IsPointWithin (2 ^ 77) least = sized_among _ least cell.1.corners.sized corner.among in
     let n : FitsSigned w128 c.value_at.result = small_fits w128 _ (2 ^ 117) c.value_at.ensures.sized (lit< tt) in
-    let d : FitsSigned w128 c.parts-den.result.2 = depth_fits _ least c.parts-den.ensures.d sized in
+    let d : FitsSigned w128 c.parts-den.result.2 = denominator_fits _ least c.parts-den.ensures.d sized in
     let inside = rw c.region.ensures.value at c.is_inside.ensures in
     simp to_z-of_z (low_is c.args.self.now _ cell.0 cell.1 c.args.f.now least corner _ c.least_sum-total.ensures
     c.value_at.result c.parts-den.result.2 c.is_inside.result c.value_at.ensures.value c.parts-den.ensures.d inside.0 inside.1)
@@ -25,7 +25,7 @@ returns-clause-sized c =
     let least = c.least_corner-least.result in
     let sized : IsPointWithin (2 ^ 77) least = sized_among _ least cell.1.corners.sized c.least_corner-least.ensures.among in
     let n : FitsSigned w128 c.value_at.result = small_fits w128 _ (2 ^ 117) c.value_at.ensures.sized (lit< tt) in
-    let d : FitsSigned w128 c.parts-den.result.2 = depth_fits _ least c.parts-den.ensures.d sized in
+    let d : FitsSigned w128 c.parts-den.result.2 = denominator_fits _ least c.parts-den.ensures.d sized in
     simp to_z-of_z (bound_sized c.value_at.result c.parts-den.result.2 c.is_inside.result least c.value_at.ensures.sized c.parts-den.ensures.d sized)
 
 pub is_inside-requires : goal.is_inside-requires

@@ -5,7 +5,7 @@ use Rattle.srs_num.proofs.Ranges.{small_fits, within_sum, within_turned}
 use Rattle.srs_cell.specs.Moves.{LeadsTo, AreMoves}
 use Rattle.srs_cell.proofs.LeastFloors.{moves_with, moves_without}
 use Rattle.srs_cell.proofs.Lessening.{turned}
-use Rattle.srs_cell.proofs.cells.Cell.moves.Goals as goal
+use Rattle.srs_cell.proofs.cells.Cell.steps.Goals as goal
 
 pub returns-then-takes : goal.returns-then-takes
 returns-then-takes c =
