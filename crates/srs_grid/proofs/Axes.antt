@@ -8,11 +8,11 @@ use Rattle.srs_num.proofs.Ranges.{within_more}
 use Rattle.srs_num.proofs.Ring.{v, lit, ◌⊕◌, ◌⊖◌, ◌⊗◌, minus, ring}
 use Rattle.srs_plane.specs.Regions.{Area, IsIn, HasPoint, Divides}
 use Rattle.srs_path.specs.GridLine.{Axis, X, Y, form_along, grid_form}
-use Rattle.srs_grid.specs.declared.spans.Span.{Span}
+use Rattle.srs_grid.specs.declared.extents.Extent.{Extent}
 use Rattle.srs_grid.specs.Levels.{Splits, IsSpread, IsTwice}
-use Rattle.srs_grid.specs.Spans.{IsSpan, IsSpanSized}
+use Rattle.srs_grid.specs.Extents.{IsExtent, IsExtentSized}
 use Rattle.srs_grid.proofs.Parts.{power_within}
-use Rattle.srs_grid.proofs.Spreads.{level_within, span_sized}
+use Rattle.srs_grid.proofs.Spreads.{level_within, extent_sized}
 
 -- 2^m*x, or 2^m*y
 abbrev pub scaled : Axis → ℕ → LinearForm
@@ -106,7 +106,7 @@ scale_within m h = let small : 2 ^ m ≤ 2 ^ 36 = power_within m 36 h in omega a
 pub line_within : (R : Area) (axis : Axis) (m : ℕ) (k : ℤ) → ((r : Point) → IsIn R r → IsNear r) → m ≤ 36 → Splits R (scaled axis m) k → IsWithin (2 ^ 38) k
 line_within R axis m k near h split = within_more k (4 * 2 ^ m) (2 ^ 38) (level_within R (scaled axis m) (4 * 2 ^ m) k (spread_scaled R axis m near) split) (scale_within m h)
 
-pub scaled_sized : (R : Area) (axis : Axis) (m : ℕ) (s : Span) → HasPoint R → ((r : Point) → IsIn R r → IsNear r) → m ≤ 36 → IsSpan R (scaled axis m) s → IsSpanSized s
-scaled_sized R axis m s point near h span =
+pub scaled_sized : (R : Area) (axis : Axis) (m : ℕ) (s : Extent) → HasPoint R → ((r : Point) → IsIn R r → IsNear r) → m ≤ 36 → IsExtent R (scaled axis m) s → IsExtentSized s
+scaled_sized R axis m s point near h extent =
     let small = scale_within m h in
-    span_sized R (scaled axis m) (4 * 2 ^ m) s point (spread_scaled R axis m near) (omega arith) span
+    extent_sized R (scaled axis m) (4 * 2 ^ m) s point (spread_scaled R axis m near) (omega arith) extent

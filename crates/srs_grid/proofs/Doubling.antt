@@ -8,9 +8,9 @@ use Rattle.srs_plane.specs.Regions.{Area}
 use Rattle.srs_cell.specs.Bounds.{IsInfimum, IsSupremum, Takes, IsHigh}
 use Rattle.srs_cell.specs.declared.bounds.Bound.{Bound}
 use Rattle.srs_grid.specs.declared.mixed.Mixed.{Mixed}
-use Rattle.srs_grid.specs.declared.spans.Span.{Span}
+use Rattle.srs_grid.specs.declared.extents.Extent.{Extent}
 use Rattle.srs_grid.specs.Levels.{IsTwice}
-use Rattle.srs_grid.specs.Spans.{numerator, IsMixed, IsSpan}
+use Rattle.srs_grid.specs.Extents.{numerator, IsMixed, IsExtent}
 
 -- ---- plain numbers
 inside_twice : (a b : ℤ) → a *ℤ (pos 2 *ℤ b) ≡ pos 2 *ℤ (a *ℤ b)
@@ -69,26 +69,26 @@ pub record IsDoubled (x y : Mixed) : Type 0 where
   pub den : y.den ≡ x.den
   pub num : numerator y ≡ pos 2 *ℤ numerator x
 
-pub twice_span : (R : Area) (f g : LinearForm) (s : Span) (low high : Mixed) → IsTwice f g → IsSpan R f s → IsDoubled s.low low → IsDoubled s.high high
-    → IsSpan R g (record { low = low; high = high; attained = s.attained })
-twice_span R f g s low high twice span l h = record {
+pub twice_extent : (R : Area) (f g : LinearForm) (s : Extent) (low high : Mixed) → IsTwice f g → IsExtent R f s → IsDoubled s.low low → IsDoubled s.high high
+    → IsExtent R g (record { low = low; high = high; attained = s.attained })
+twice_extent R f g s low high twice extent l h = record {
   low_mixed = l.mixed;
   high_mixed = h.mixed;
-  infimum = rw (l.num, l.den) (twice_infimum R f g (numerator s.low) s.low.den twice span.infimum);
-  supremum = rw (h.num, h.den) (twice_supremum R f g (numerator s.high) s.high.den twice span.supremum);
-  attained = λ on. rw (h.num, h.den) (twice_takes R f g (numerator s.high) s.high.den twice (span.attained on));
-  all_attained = λ t. span.all_attained (half_takes R f g (numerator s.high) s.high.den twice (rw (h.num, h.den) at t));
+  infimum = rw (l.num, l.den) (twice_infimum R f g (numerator s.low) s.low.den twice extent.infimum);
+  supremum = rw (h.num, h.den) (twice_supremum R f g (numerator s.high) s.high.den twice extent.supremum);
+  attained = λ on. rw (h.num, h.den) (twice_takes R f g (numerator s.high) s.high.den twice (extent.attained on));
+  all_attained = λ t. extent.all_attained (half_takes R f g (numerator s.high) s.high.den twice (rw (h.num, h.den) at t));
 }
 
--- the span from the two bounds
+-- the extent from the two bounds
 pub record IsSame (n d : ℤ) (y : Mixed) : Type 0 where
   pub mixed : IsMixed y
   pub den : y.den ≡ d
   pub num : numerator y ≡ n
 
-pub span_of : (R : Area) (f : LinearForm) (n d : ℤ) (b : Bound) (low high : Mixed) → IsInfimum R f n d → IsHigh R f b → IsSame n d low → IsSame b.num b.den high
-    → IsSpan R f (record { low = low; high = high; attained = b.attained })
-span_of R f n d b low high is_infimum is_high l h = record {
+pub extent_of : (R : Area) (f : LinearForm) (n d : ℤ) (b : Bound) (low high : Mixed) → IsInfimum R f n d → IsHigh R f b → IsSame n d low → IsSame b.num b.den high
+    → IsExtent R f (record { low = low; high = high; attained = b.attained })
+extent_of R f n d b low high is_infimum is_high l h = record {
   low_mixed = l.mixed;
   high_mixed = h.mixed;
   infimum = rw (l.num, l.den) is_infimum;

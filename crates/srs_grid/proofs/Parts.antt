@@ -10,7 +10,7 @@ use Rattle.srs_num.proofs.Linear.{linear}
 use Rattle.srs_num.proofs.Ring.{v, lit, ◌⊕◌, ◌⊖◌, ◌⊗◌, ring}
 use Rattle.srs_num.proofs.Quotients.{split_of}
 use Rattle.srs_grid.specs.declared.mixed.Mixed.{Mixed}
-use Rattle.srs_grid.specs.Spans.{numerator, IsMixed}
+use Rattle.srs_grid.specs.Extents.{numerator, IsMixed}
 
 pub numerator_is : (x : Mixed) → numerator x ≡ x.whole *ℤ x.den +ℤ x.rest
 unfolding numerator

@@ -9,9 +9,9 @@ use Rattle.srs_num.proofs.Floors.{floor_greatest}
 use Rattle.srs_num.proofs.Ring.{v, lit, ◌⊕◌, ◌⊖◌, ◌⊗◌, ring}
 use Rattle.srs_plane.specs.Regions.{Area, IsIn}
 use Rattle.srs_cell.specs.Bounds.{IsInfimum, IsSupremum}
-use Rattle.srs_grid.specs.declared.spans.Span.{Span}
+use Rattle.srs_grid.specs.declared.extents.Extent.{Extent}
 use Rattle.srs_grid.specs.Levels.{Reaches, StaysUnder, Splits, IsFirstLevel, HasNoLevel}
-use Rattle.srs_grid.specs.Spans.{numerator, IsSpan}
+use Rattle.srs_grid.specs.Extents.{numerator, IsExtent}
 use Rattle.srs_grid.proofs.Parts.{numerator_is, den_positive, whole_floor}
 
 -- ---- plain numbers
@@ -107,21 +107,21 @@ infimum_below R f num den k inf lt =
     along : (a b c : ℤ) → a ≡ b → b <ℤ c → a <ℤ c
     along a b c e h = omega (arith, linear)
 
-pub splits_above : (R : Area) (f : LinearForm) (s : Span) (k : ℤ) → IsSpan R f s → Splits R f k → s.low.whole <ℤ k
-splits_above R f s k span split =
+pub splits_above : (R : Area) (f : LinearForm) (s : Extent) (k : ℤ) → IsExtent R f s → Splits R f k → s.low.whole <ℤ k
+splits_above R f s k extent split =
     let z = split.below in
-    let den = den_positive s.low span.low_mixed in
-    let lt = below_level (numerator s.low) s.low.den k (value f z.0) z.0.d z.1.is_point den (span.infimum.bound z.0 z.1) z.2 in
+    let den = den_positive s.low extent.low_mixed in
+    let lt = below_level (numerator s.low) s.low.den k (value f z.0) z.0.d z.1.is_point den (extent.infimum.bound z.0 z.1) z.2 in
     by_lt_z s.low.whole k (λ l. l)
-    (λ l. absurd (clash _ _ _ (mul_mono k s.low.whole s.low.den (not_below_zero _ den) l) (whole_floor s.low span.low_mixed).not_above lt))
+    (λ l. absurd (clash _ _ _ (mul_mono k s.low.whole s.low.den (not_below_zero _ den) l) (whole_floor s.low extent.low_mixed).not_above lt))
   where
     clash : (x y n : ℤ) → x ≤ℤ y → y ≤ℤ n → n <ℤ x → ⊥
     clash x y n a b c = omega (arith, linear)
 
-pub below_above_floor : (R : Area) (f : LinearForm) (s : Span) (k : ℤ) → IsSpan R f s → s.low.whole <ℤ k → (r : Point) × IsIn R r × (value f r <ℤ (k *ℤ r.d))
-below_above_floor R f s k span lt =
-    infimum_below R f (numerator s.low) s.low.den k span.infimum
-    (above_floor _ _ k s.low.whole (den_positive s.low span.low_mixed) (whole_floor s.low span.low_mixed) lt)
+pub below_above_floor : (R : Area) (f : LinearForm) (s : Extent) (k : ℤ) → IsExtent R f s → s.low.whole <ℤ k → (r : Point) × IsIn R r × (value f r <ℤ (k *ℤ r.d))
+below_above_floor R f s k extent lt =
+    infimum_below R f (numerator s.low) s.low.den k extent.infimum
+    (above_floor _ _ k s.low.whole (den_positive s.low extent.low_mixed) (whole_floor s.low extent.low_mixed) lt)
 
 -- ---- the supremum
 pub supremum_above : (R : Area) (f : LinearForm) (num den k : ℤ) → IsSupremum R f num den → (k *ℤ den) <ℤ num → (r : Point) × IsIn R r × ((k *ℤ r.d) <ℤ value f r)
@@ -138,57 +138,57 @@ supremum_reaches R f num den k sup lt = let p = supremum_above R f num den k sup
     weak : (a b : ℤ) → a <ℤ b → a ≤ℤ b
     weak a b h = omega (arith, linear)
 
-pub reaches_below : (R : Area) (f : LinearForm) (s : Span) (k : ℤ) → IsSpan R f s → k <ℤ s.high.whole → Reaches R f k
-reaches_below R f s k span lt =
-    supremum_reaches R f (numerator s.high) s.high.den k span.supremum
-    (below_floor _ _ k s.high.whole (den_positive s.high span.high_mixed) (whole_floor s.high span.high_mixed) lt)
+pub reaches_below : (R : Area) (f : LinearForm) (s : Extent) (k : ℤ) → IsExtent R f s → k <ℤ s.high.whole → Reaches R f k
+reaches_below R f s k extent lt =
+    supremum_reaches R f (numerator s.high) s.high.den k extent.supremum
+    (below_floor _ _ k s.high.whole (den_positive s.high extent.high_mixed) (whole_floor s.high extent.high_mixed) lt)
 
-pub reaches_rest : (R : Area) (f : LinearForm) (s : Span) (k : ℤ) → IsSpan R f s → k ≡ s.high.whole → pos 0 <ℤ s.high.rest → Reaches R f k
-reaches_rest R f s k span same some =
-    supremum_reaches R f (numerator s.high) s.high.den k span.supremum
+pub reaches_rest : (R : Area) (f : LinearForm) (s : Extent) (k : ℤ) → IsExtent R f s → k ≡ s.high.whole → pos 0 <ℤ s.high.rest → Reaches R f k
+reaches_rest R f s k extent same some =
+    supremum_reaches R f (numerator s.high) s.high.den k extent.supremum
     (less _ _ _ _ (numerator_is s.high) (ap (λ w. w *ℤ s.high.den) same) some)
   where
     less : (n x y r : ℤ) → n ≡ y +ℤ r → x ≡ y → pos 0 <ℤ r → x <ℤ n
     less n x y r e f h = omega (arith, linear)
 
-pub reaches_taken : (R : Area) (f : LinearForm) (s : Span) (k : ℤ) → IsSpan R f s → k ≡ s.high.whole → s.attained ≡ true → Reaches R f k
-reaches_taken R f s k span same on =
-    let z = span.attained on in
-    let floor = whole_floor s.high span.high_mixed in (
+pub reaches_taken : (R : Area) (f : LinearForm) (s : Extent) (k : ℤ) → IsExtent R f s → k ≡ s.high.whole → s.attained ≡ true → Reaches R f k
+reaches_taken R f s k extent same on =
+    let z = extent.attained on in
+    let floor = whole_floor s.high extent.high_mixed in (
       z.0,
       z.1,
-      taken_reaches (numerator s.high) s.high.den k (value f z.0) z.0.d z.1.is_point (den_positive s.high span.high_mixed)
+      taken_reaches (numerator s.high) s.high.den k (value f z.0) z.0.d z.1.is_point (den_positive s.high extent.high_mixed)
           (not_above _ _ _ (ap (λ w. w *ℤ s.high.den) same) floor.not_above) z.2,
     )
   where
     not_above : (x y n : ℤ) → x ≡ y → y ≤ℤ n → x ≤ℤ n
     not_above x y n e h = omega (arith, linear)
 
-pub stays_open : (R : Area) (f : LinearForm) (s : Span) (k : ℤ) → IsSpan R f s → k ≡ s.high.whole → s.high.rest ≤ℤ pos 0 → s.attained ≡ false → StaysUnder R f k
-stays_open R f s k span same none off z i =
+pub stays_open : (R : Area) (f : LinearForm) (s : Extent) (k : ℤ) → IsExtent R f s → k ≡ s.high.whole → s.high.rest ≤ℤ pos 0 → s.attained ≡ false → StaysUnder R f k
+stays_open R f s k extent same none off z i =
     by_lt_z (value f z) (k *ℤ z.d) (λ l. l)
-    (λ l. absurd (false≢true (sym off ∙ span.all_attained (
+    (λ l. absurd (false≢true (sym off ∙ extent.all_attained (
       z,
       i,
-      taken_level (numerator s.high) s.high.den k (value f z) z.d (den_positive s.high span.high_mixed) (span.supremum.bound z i) l
-          (level _ _ _ _ (numerator_is s.high) (ap (λ w. w *ℤ s.high.den) same) none span.high_mixed.rest_low),
+      taken_level (numerator s.high) s.high.den k (value f z) z.d (den_positive s.high extent.high_mixed) (extent.supremum.bound z i) l
+          (level _ _ _ _ (numerator_is s.high) (ap (λ w. w *ℤ s.high.den) same) none extent.high_mixed.rest_low),
     ))))
   where
     level : (n x y r : ℤ) → n ≡ y +ℤ r → x ≡ y → r ≤ℤ pos 0 → pos 0 ≤ℤ r → n ≡ x
     level n x y r e f h k = omega (arith, linear)
 
-pub stays_above : (R : Area) (f : LinearForm) (s : Span) (k : ℤ) → IsSpan R f s → s.high.whole <ℤ k → StaysUnder R f k
-stays_above R f s k span lt z i =
+pub stays_above : (R : Area) (f : LinearForm) (s : Extent) (k : ℤ) → IsExtent R f s → s.high.whole <ℤ k → StaysUnder R f k
+stays_above R f s k extent lt z i =
     by_lt_z (value f z) (k *ℤ z.d) (λ l. l)
-    (λ l. absurd (clash _ _ lt (floor_greatest _ _ k s.high.whole (den_positive s.high span.high_mixed) (whole_floor s.high span.high_mixed)
-    (reached_level (numerator s.high) s.high.den k (value f z) z.d i.is_point (den_positive s.high span.high_mixed) (span.supremum.bound z i) l))))
+    (λ l. absurd (clash _ _ lt (floor_greatest _ _ k s.high.whole (den_positive s.high extent.high_mixed) (whole_floor s.high extent.high_mixed)
+    (reached_level (numerator s.high) s.high.den k (value f z) z.d i.is_point (den_positive s.high extent.high_mixed) (extent.supremum.bound z i) l))))
   where
     clash : (a b : ℤ) → a <ℤ b → b ≤ℤ a → ⊥
     clash a b h k = omega (arith, linear)
 
 -- k is at least the whole part of the supremum, and isn't that
-pub stays_not_below : (R : Area) (f : LinearForm) (s : Span) (k : ℤ) → IsSpan R f s → (of_z w64 k ≡ of_z w64 s.high.whole → ⊥) → s.high.whole ≤ℤ k → StaysUnder R f k
-stays_not_below R f s k span off le = stays_above R f s k span (apart s.high.whole k (λ e. off (ap (of_z w64) (sym e))) le)
+pub stays_not_below : (R : Area) (f : LinearForm) (s : Extent) (k : ℤ) → IsExtent R f s → (of_z w64 k ≡ of_z w64 s.high.whole → ⊥) → s.high.whole ≤ℤ k → StaysUnder R f k
+stays_not_below R f s k extent off le = stays_above R f s k extent (apart s.high.whole k (λ e. off (ap (of_z w64) (sym e))) le)
   where
     apart : (a b : ℤ) → ¬ (a ≡ b) → a ≤ℤ b → a <ℤ b
     apart a b n h = omega (arith, linear)
@@ -198,10 +198,10 @@ by_flag true f g = f refl
 by_flag false f g = g refl
 
 -- ---- the first level
-pub first_reached : (R : Area) (f : LinearForm) (s : Span) → IsSpan R f s → Reaches R f (s.low.whole +ℤ pos 1) → IsFirstLevel R f (s.low.whole +ℤ pos 1)
-first_reached R f s span up = record {
-  splits = record { not_below = up; below = below_above_floor R f s (s.low.whole +ℤ pos 1) span (more s.low.whole) };
-  none_below = λ j lt split. between j s.low.whole lt (splits_above R f s j span split);
+pub first_reached : (R : Area) (f : LinearForm) (s : Extent) → IsExtent R f s → Reaches R f (s.low.whole +ℤ pos 1) → IsFirstLevel R f (s.low.whole +ℤ pos 1)
+first_reached R f s extent up = record {
+  splits = record { not_below = up; below = below_above_floor R f s (s.low.whole +ℤ pos 1) extent (more s.low.whole) };
+  none_below = λ j lt split. between j s.low.whole lt (splits_above R f s j extent split);
 }
   where
     more : (w : ℤ) → w <ℤ (w +ℤ pos 1)
@@ -210,11 +210,11 @@ first_reached R f s span up = record {
     between : (j w : ℤ) → j <ℤ (w +ℤ pos 1) → w <ℤ j → ⊥
     between j w h l = omega (arith, linear)
 
-pub none_reached : (R : Area) (f : LinearForm) (s : Span) → IsSpan R f s → StaysUnder R f (s.low.whole +ℤ pos 1) → HasNoLevel R f
-none_reached R f s span under j split =
+pub none_reached : (R : Area) (f : LinearForm) (s : Extent) → IsExtent R f s → StaysUnder R f (s.low.whole +ℤ pos 1) → HasNoLevel R f
+none_reached R f s extent under j split =
     let z = split.not_below in
     let k = s.low.whole +ℤ pos 1 in
-    clash (k *ℤ z.0.d) (j *ℤ z.0.d) (value f z.0) (under z.0 z.1) (mul_mono k j z.0.d (not_below_zero _ z.1.is_point) (least j s.low.whole (splits_above R f s j span split))) z.2
+    clash (k *ℤ z.0.d) (j *ℤ z.0.d) (value f z.0) (under z.0 z.1) (mul_mono k j z.0.d (not_below_zero _ z.1.is_point) (least j s.low.whole (splits_above R f s j extent split))) z.2
   where
     least : (j w : ℤ) → w <ℤ j → (w +ℤ pos 1) ≤ℤ j
     least j w l = omega (arith, linear)

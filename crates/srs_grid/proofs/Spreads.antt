@@ -8,9 +8,9 @@ use Rattle.srs_num.proofs.Floors.{floor_within}
 use Rattle.srs_num.proofs.Ring.{v, lit, ◌⊕◌, ◌⊖◌, ◌⊗◌, minus, ring}
 use Rattle.srs_plane.specs.Regions.{Area, HasPoint}
 use Rattle.srs_cell.specs.Bounds.{IsInfimum, IsSupremum}
-use Rattle.srs_grid.specs.declared.spans.Span.{Span}
+use Rattle.srs_grid.specs.declared.extents.Extent.{Extent}
 use Rattle.srs_grid.specs.Levels.{Splits, IsSpread}
-use Rattle.srs_grid.specs.Spans.{numerator, IsSpan, IsSpanSized}
+use Rattle.srs_grid.specs.Extents.{numerator, IsExtent, IsExtentSized}
 use Rattle.srs_grid.proofs.Parts.{den_positive, whole_floor}
 use Rattle.srs_grid.proofs.Reaching.{reached_level, infimum_below, supremum_above, not_below_zero, above_zero, gap_at_least}
 
@@ -96,14 +96,14 @@ level_within R f t k spread split =
     clash : {y d : ℤ} (s x n : ℤ) → s ≤ℤ x → x ≤ℤ n → n ≤ℤ y → pos 1 ≤ℤ d → s ≡ y +ℤ d → ⊥
     clash s x n a b c h e = omega (arith, linear)
 
--- the whole parts of a span
-pub span_sized : (R : Area) (f : LinearForm) (t : ℕ) (s : Span) → HasPoint R → IsSpread R f t → t ≤ 2 ^ 40 → IsSpan R f s → IsSpanSized s
-span_sized R f t s point spread small span =
-    let low = infimum_within R f t (numerator s.low) s.low.den point spread (den_positive s.low span.low_mixed) span.infimum in
-    let high = supremum_within R f t (numerator s.high) s.high.den point spread (den_positive s.high span.high_mixed) span.supremum in
+-- the whole parts of a extent
+pub extent_sized : (R : Area) (f : LinearForm) (t : ℕ) (s : Extent) → HasPoint R → IsSpread R f t → t ≤ 2 ^ 40 → IsExtent R f s → IsExtentSized s
+extent_sized R f t s point spread small extent =
+    let low = infimum_within R f t (numerator s.low) s.low.den point spread (den_positive s.low extent.low_mixed) extent.infimum in
+    let high = supremum_within R f t (numerator s.high) s.high.den point spread (den_positive s.high extent.high_mixed) extent.supremum in
     record {
-      low_mixed = span.low_mixed;
-      high_mixed = span.high_mixed;
-      low_range = within_more s.low.whole t (2 ^ 40) (floor_within t _ _ _ (den_positive s.low span.low_mixed) (whole_floor s.low span.low_mixed) low.low low.high) small;
-      high_range = within_more s.high.whole t (2 ^ 40) (floor_within t _ _ _ (den_positive s.high span.high_mixed) (whole_floor s.high span.high_mixed) high.low high.high) small;
+      low_mixed = extent.low_mixed;
+      high_mixed = extent.high_mixed;
+      low_range = within_more s.low.whole t (2 ^ 40) (floor_within t _ _ _ (den_positive s.low extent.low_mixed) (whole_floor s.low extent.low_mixed) low.low low.high) small;
+      high_range = within_more s.high.whole t (2 ^ 40) (floor_within t _ _ _ (den_positive s.high extent.high_mixed) (whole_floor s.high extent.high_mixed) high.low high.high) small;
     }

@@ -3,6 +3,6 @@
 
 mod lines;
 mod mixed;
-mod spans;
+mod extents;
 
 pub use lines::line;

@@ -3,7 +3,7 @@ ghost use Rattle.std.specs.Prelude.{◌≡◌, ◌≤◌, ◌^◌, pos, IfSome, 
 ghost use Rattle.srs_num.specs.Points.{IsWithin};
 ghost use Rattle.srs_path.specs.GridLine.{X, Y, grid_form, IsFirstGridLine, HasNoGridLine};
 
-use crate::spans::Span;
+use crate::extents::Extent;
 use srs_cell::Cell;
 use srs_num::Form;
 
@@ -19,8 +19,8 @@ pub fn line(cell: &Cell) -> Option<Form>
 {
     // A cell has a point, and all its points are near.
     let _ = cell.region().len();
-    let mut x = Span::of(cell, &axis(1, 0));
-    let mut y = Span::of(cell, &axis(0, 1));
+    let mut x = Extent::of(cell, &axis(1, 0));
+    let mut y = Extent::of(cell, &axis(0, 1));
     for m in 0..FINEST + 1 {
         if let Some(k) = x.first_level() {
             return Some(x_line(m, k));

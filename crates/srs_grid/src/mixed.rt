@@ -1,7 +1,7 @@
 // Numbers as a whole part and a rest.
 ghost use Rattle.std.specs.Prelude.{◌≡◌, ◌^◌, pos, ◌*ℤ◌, neg_ℤ, ◌≤ℤ◌};
 ghost use Rattle.srs_num.specs.Points.{IsWithin};
-ghost use Rattle.srs_grid.specs.Spans.{numerator, IsMixed};
+ghost use Rattle.srs_grid.specs.Extents.{numerator, IsMixed};
 
 /// The number `whole + rest / den`, with `rest` from 0 to `den - 1`, and `den` at most 2^77.
 #[derive(Clone, Copy)]

@@ -7,6 +7,7 @@ ghost use Rattle.srs_path.specs.Soundness.{IsSound};
 ghost use Rattle.srs_path.specs.HeldOutcomes.{outcome_held};
 
 use crate::{Cause, Outcome};
+use srs_num::NoMemory;
 use srs_plane::Region;
 use std::alloc::Global;
 use std::marker::Model;
@@ -84,6 +85,19 @@ impl Finding {
         match &self.held {
             Held::Own(outcome) => outcome,
             Held::Shared(outcome) => outcome.as_ref(),
+        }
+    }
+
+    /// The three. An `Err` is want of memory: it comes only where the outcome was shared before.
+    pub fn parts(self, alloc: Global) -> Result<(Region, u32, Outcome), NoMemory>
+        ensures region { IfOk result (λ parts. parts.0 ≡ self.region) }
+        ensures w { IfOk result (λ parts. parts.1 ≡ self.w) }
+        ensures outcome { IfOk result (λ parts. parts.2 ≡ self.outcome) }
+        ensures sound { IsSound self.region self.w self.outcome }
+    {
+        match self.held {
+            Held::Own(outcome) => Ok((self.region, self.w, outcome)),
+            Held::Shared(outcome) => Ok((self.region, self.w, outcome.copy(alloc)?)),
         }
     }
 

@@ -3,7 +3,7 @@ ghost use Rattle.std.specs.Prelude.{MatchBool, MatchOption};
 ghost use Rattle.srs_num.specs.Points.{LinearForm};
 ghost use Rattle.srs_plane.specs.Regions.{Area, HasPoint};
 ghost use Rattle.srs_grid.specs.Levels.{IsSpread, IsTwice, Reaches, StaysUnder, IsFirstLevel, HasNoLevel};
-ghost use Rattle.srs_grid.specs.Spans.{IsSpan, IsSpanSized};
+ghost use Rattle.srs_grid.specs.Extents.{IsExtent, IsExtentSized};
 
 use crate::mixed::Mixed;
 use srs_cell::Cell;
@@ -11,34 +11,34 @@ use srs_num::Form;
 
 /// The infimum and the supremum of a form over a cell, and whether a point takes the supremum.
 #[derive(Clone, Copy)]
-pub struct Span {
+pub struct Extent {
     pub low: Mixed,
     pub high: Mixed,
     pub attained: bool,
 }
 
-impl Span {
-    /// The span of a form that is at most 4 in magnitude over the cell.
-    pub fn of(cell: &Cell, form: &Form) -> Span
+impl Extent {
+    /// the extent of a form that is at most 4 in magnitude over the cell.
+    pub fn of(cell: &Cell, form: &Form) -> Extent
         requires point { HasPoint cell.now }
         requires spread { IsSpread cell.now form.now 4 }
-        ensures { IsSpan cell.now form.now result }
+        ensures { IsExtent cell.now form.now result }
     {
         let low = cell.infimum(form);
         let high = cell.high(form);
-        Span {
+        Extent {
             low: Mixed::of(low.num, low.den),
             high: Mixed::of(high.num, high.den),
             attained: high.attained,
         }
     }
 
-    /// The span of a form that is twice as great.
-    pub fn doubled(&self) -> Span
-        requires { IsSpanSized self.now }
-        ensures { (R : Area) (f g : LinearForm) → IsTwice f g → IsSpan R f self.now → IsSpan R g result }
+    /// the extent of a form that is twice as great.
+    pub fn doubled(&self) -> Extent
+        requires { IsExtentSized self.now }
+        ensures { (R : Area) (f g : LinearForm) → IsTwice f g → IsExtent R f self.now → IsExtent R g result }
     {
-        Span {
+        Extent {
             low: self.low.doubled(),
             high: self.high.doubled(),
             attained: self.attained,
@@ -47,8 +47,8 @@ impl Span {
 
     /// The least whole number that splits the cell: the least one above the infimum, where it isn't above all values.
     pub fn first_level(&self) -> Option<i64>
-        requires { IsSpanSized self.now }
-        ensures { (R : Area) (f : LinearForm) → IsSpan R f self.now → MatchOption result (HasNoLevel R f) (IsFirstLevel R f) }
+        requires { IsExtentSized self.now }
+        ensures { (R : Area) (f : LinearForm) → IsExtent R f self.now → MatchOption result (HasNoLevel R f) (IsFirstLevel R f) }
     {
         let level = self.low.whole + 1;
         if self.reaches(level) {
@@ -60,8 +60,8 @@ impl Span {
 
     // Whether a value is at least the level.
     fn reaches(&self, level: i64) -> bool
-        requires { IsSpanSized self.now }
-        ensures { (R : Area) (f : LinearForm) → IsSpan R f self.now → MatchBool result (Reaches R f level) (StaysUnder R f level) }
+        requires { IsExtentSized self.now }
+        ensures { (R : Area) (f : LinearForm) → IsExtent R f self.now → MatchBool result (Reaches R f level) (StaysUnder R f level) }
     {
         if level == self.high.whole {
             return self.high.rest > 0 || self.attained;

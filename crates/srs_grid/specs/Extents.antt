@@ -1,10 +1,10 @@
--- The span of a form over a region, in whole parts and rests.
+-- the extent of a form over a region, in whole parts and rests.
 use Rattle.std.specs.Prelude.{◌^◌, IsTrue, ℤ, pos, ◌+ℤ◌, ◌*ℤ◌, ◌≤ℤ◌, ◌<ℤ◌}
 use Rattle.srs_num.specs.Points.{LinearForm, IsWithin}
 use Rattle.srs_plane.specs.Regions.{Area}
 use Rattle.srs_cell.specs.Bounds.{IsInfimum, IsSupremum, Takes}
 use Rattle.srs_grid.specs.declared.mixed.Mixed.{Mixed}
-use Rattle.srs_grid.specs.declared.spans.Span.{Span}
+use Rattle.srs_grid.specs.declared.extents.Extent.{Extent}
 
 -- den times the number whole + rest / den
 unfoldable pub numerator : Mixed → ℤ
@@ -17,7 +17,7 @@ pub record IsMixed (x : Mixed) : Type 0 where
   pub den_range : IsWithin (2 ^ 77) x.den
 
 -- low and high are the infimum and the supremum of f over R, and `attained` says whether a point takes the latter
-pub record IsSpan (R : Area) (f : LinearForm) (s : Span) : Type 0 where
+pub record IsExtent (R : Area) (f : LinearForm) (s : Extent) : Type 0 where
   pub low_mixed : IsMixed s.low
   pub high_mixed : IsMixed s.high
   pub infimum : IsInfimum R f (numerator s.low) s.low.den
@@ -26,7 +26,7 @@ pub record IsSpan (R : Area) (f : LinearForm) (s : Span) : Type 0 where
   pub all_attained : Takes R f (numerator s.high) s.high.den → IsTrue s.attained
 
 -- what doubling needs: the whole parts are within 2^40
-pub record IsSpanSized (s : Span) : Type 0 where
+pub record IsExtentSized (s : Extent) : Type 0 where
   pub low_mixed : IsMixed s.low
   pub high_mixed : IsMixed s.high
   pub low_range : IsWithin (2 ^ 40) s.low.whole

@@ -2,9 +2,9 @@ use Rattle.std.proofs.Common.{◌^◌, FitsSigned, lit<}
 use Rattle.std.specs.Int.{w128}
 use Rattle.std.proofs.lemmas.Int.{to_z-of_z}
 use Rattle.srs_num.proofs.Ranges.{small_fits}
-use Rattle.srs_grid.proofs.Doubling.{span_of}
+use Rattle.srs_grid.proofs.Doubling.{extent_of}
 use Rattle.srs_grid.proofs.Spreads.{infimum_within, supremum_within}
-use Rattle.srs_grid.proofs.spans.Span.of.Goals as goal
+use Rattle.srs_grid.proofs.extents.Extent.of.Goals as goal
 
 pub of-requires-clause-low : goal.of-requires-clause-low
 of-requires-clause-low c =
@@ -42,6 +42,6 @@ returns c =
     let ad : FitsSigned w128 a.den = small_fits w128 a.den (2 ^ 77) c.infimum-low.ensures.den_range (lit< tt) in
     let bn : FitsSigned w128 b.num = small_fits w128 b.num (2 ^ 117) c.high-high.ensures.sized.num_range (lit< tt) in
     let bd : FitsSigned w128 b.den = small_fits w128 b.den (2 ^ 77) c.high-high.ensures.sized.den_range (lit< tt) in
-    span_of c.args.cell.now c.args.form.now a.num a.den b c.of.result c.of-2.result c.infimum-low.ensures.infimum c.high-high.ensures.high
+    extent_of c.args.cell.now c.args.form.now a.num a.den b c.of.result c.of-2.result c.infimum-low.ensures.infimum c.high-high.ensures.high
     (record { mixed = c.of.ensures.mixed; den = simp to_z-of_z at c.of.ensures.den; num = simp to_z-of_z at c.of.ensures.num })
     (record { mixed = c.of-2.ensures.mixed; den = simp to_z-of_z at c.of-2.ensures.den; num = simp to_z-of_z at c.of-2.ensures.num })
