@@ -6,6 +6,7 @@ ghost use Rattle.srs_graph.specs.Marks.{mark_at, LeadsOn};
 ghost use Rattle.srs_graph.specs.Walks.{IsFirstOpen, AreAllMarked, IsStep, LeadOn, IsRound, first_entries};
 ghost use Rattle.srs_path.specs.declared.limits.TheConstants.{MOST_WITNESSES};
 
+use crate::listing::add_number;
 use crate::peeling::no_marks;
 use crate::rows::Row;
 use srs_num::{NoMemory, V2};
@@ -89,7 +90,7 @@ pub(crate) fn entries(
 {
     let mut entries = Nums::new(alloc);
     for k in from..path.len() {
-        entries.push(pairs[path[k]].a).or(Err(NoMemory))?;
+        add_number(&mut entries, pairs[path[k]].a)?;
     }
     Ok(entries)
 }

@@ -95,9 +95,10 @@ impl Finding {
         ensures outcome { IfOk result (λ parts. parts.2 ≡ self.outcome) }
         ensures sound { IsSound self.region self.w self.outcome }
     {
-        match self.held {
-            Held::Own(outcome) => Ok((self.region, self.w, outcome)),
-            Held::Shared(outcome) => Ok((self.region, self.w, outcome.copy(alloc)?)),
+        let Finding { region, w, held } = self;
+        match held {
+            Held::Own(outcome) => Ok((region, w, outcome)),
+            Held::Shared(outcome) => Ok((region, w, outcome.copy(alloc)?)),
         }
     }
 

@@ -160,9 +160,10 @@ impl Search {
             self.origin = true;
             return Ok(());
         };
-        if self.found.insert(u)? {
-            self.waiting.push(u)?;
+        if !self.found.insert(u)? {
+            return Ok(());
         }
+        self.waiting.push(u)?;
         Ok(())
     }
 

@@ -6,5 +6,5 @@ use Rattle.srs_graph.proofs.rows.rows_of.Goals as goal
 
 pub loop-w-preserved : goal.loop-w-preserved
 loop-w-preserved c =
-    subst (RowsTo c.args.cell.now c.args.pairs.now (c.loop-w.w-index + 1)) (sym {A = List Row} c.in-Ok.ensures.items)
+    subst (RowsTo c.args.cell.now c.args.pairs.now (c.loop-w.w-index + 1)) (sym {A = List Row} c.in_ok-push.ensures.items)
     (rows_more c.args.cell.now c.args.pairs.now c.loop-w.w-index c.loop-w.rows.items (pair_at c.args.pairs.now c.loop-w.w-index) c.row_of.result c.loop-w.invariant refl c.row_of.ensures)

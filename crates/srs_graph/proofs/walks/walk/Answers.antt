@@ -17,6 +17,6 @@ loop-from-preserved c =
     let e : mark_at c.loop-from.met.items c.loop-from.at ≡ None =
     mark_read c.loop-from.met.items c.loop-from.at c.index.result.now None (omega (arith, c.loop-from.invariant.inside, c.loop-from.invariant.len)) c.index.ensures c.in_default.is in
     let l : length c.loop-from.path.items ≡ c.len.result = omega (arith, c.loop-from.path.ok) in
-    subst (λ (p : List ℕ). Walk c.args.rows.now c.args.marks.now p c.next_open-at.result (slice_set c.loop-from.met.items c.loop-from.at (Some c.len.result))) (sym c.in-Ok.ensures.items)
+    subst (λ (p : List ℕ). Walk c.args.rows.now c.args.marks.now p c.next_open-at.result (slice_set c.loop-from.met.items c.loop-from.at (Some c.len.result))) (sym c.in_ok-push.ensures.items)
     (subst (λ (n : ℕ). Walk c.args.rows.now c.args.marks.now (c.loop-from.path.items ++ c.loop-from.at ∷ []) c.next_open-at.result (slice_set c.loop-from.met.items c.loop-from.at (Some n))) l
     (walk_more c.args.rows.now c.args.marks.now c.loop-from.path.items c.loop-from.at c.loop-from.met.items c.next_open-at.result c.loop-from.invariant e c.next_open-at.ensures i))

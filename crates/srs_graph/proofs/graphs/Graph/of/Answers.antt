@@ -7,16 +7,16 @@ use Rattle.srs_graph.proofs.graphs.Graph.of.Goals as goal
 
 pub invariant_of-result : goal.invariant_of-result
 invariant_of-result c =
-    let e : c.args.set.now ≡ c.in-Ok.pairs.items = sym (c.in-Ok.ensures.items ∙ c.as_slice-2.ensures.value) in
-    let a : AreAllWitnesses c.args.cell.now c.in-Ok.pairs.items = subst (AreAllWitnesses c.args.cell.now) e c.requires.all in
-    let r : AreRowsOf c.args.cell.now c.in-Ok.pairs.items c.in_ok-rows.rows.items =
+    let e : c.args.set.now ≡ c.in_ok-pairs.pairs.items = sym (c.in_ok-pairs.ensures.items ∙ c.as_slice-2.ensures.value) in
+    let a : AreAllWitnesses c.args.cell.now c.in_ok-pairs.pairs.items = subst (AreAllWitnesses c.args.cell.now) e c.requires.all in
+    let r : AreRowsOf c.args.cell.now c.in_ok-pairs.pairs.items c.in_ok-rows.rows.items =
     subst (λ (ps : List V2). AreRowsOf c.args.cell.now ps c.in_ok-rows.rows.items) (c.as_slice.ensures.value ∙ e) c.in_ok-rows.ensures in
-    network_of c.args.cell.now c.in-Ok.pairs.items c.in_ok-rows.rows.items a c.requires.small r
+    network_of c.args.cell.now c.in_ok-pairs.pairs.items c.in_ok-rows.rows.items a c.requires.small r
 
-pub returns-in-Ok : goal.returns-in-Ok
-returns-in-Ok c =
-    let e : c.args.set.now ≡ c.in-Ok.pairs.items = sym (c.in-Ok.ensures.items ∙ c.as_slice-2.ensures.value) in
-    let a : AreAllWitnesses c.args.cell.now c.in-Ok.pairs.items = subst (AreAllWitnesses c.args.cell.now) e c.requires.all in
-    let r : AreRowsOf c.args.cell.now c.in-Ok.pairs.items c.in_ok-rows.rows.items =
+pub returns : goal.returns
+returns c =
+    let e : c.args.set.now ≡ c.in_ok-pairs.pairs.items = sym (c.in_ok-pairs.ensures.items ∙ c.as_slice-2.ensures.value) in
+    let a : AreAllWitnesses c.args.cell.now c.in_ok-pairs.pairs.items = subst (AreAllWitnesses c.args.cell.now) e c.requires.all in
+    let r : AreRowsOf c.args.cell.now c.in_ok-pairs.pairs.items c.in_ok-rows.rows.items =
     subst (λ (ps : List V2). AreRowsOf c.args.cell.now ps c.in_ok-rows.rows.items) (c.as_slice.ensures.value ∙ e) c.in_ok-rows.ensures in
-    graph_of c.args.cell.now c.in-Ok.pairs.items c.in_ok-rows.rows.items a r
+    graph_of c.args.cell.now c.in_ok-pairs.pairs.items c.in_ok-rows.rows.items a r

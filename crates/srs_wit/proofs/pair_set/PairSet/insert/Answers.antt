@@ -11,5 +11,5 @@ invariant_of-self c =
 pub invariant_of-self-2 : goal.invariant_of-self-2
 invariant_of-self-2 c =
     let s = c.self.inside in
-    rw c.in-Ok.ensures.items
+    rw c.in_ok-push.ensures.items
     (indexed_near s.side s.items.items s.near.words.items s.far.keys c.args.v c.self.invariant c.in-Some.k c.mark.new.self.words.items c.in-Some.ensures c.mark.ensures)
