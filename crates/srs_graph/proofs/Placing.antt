@@ -161,39 +161,3 @@ module _ (R : Area) (ps : List V2) where
 
   pub graph_of : (rows : List Row) → AreAllWitnesses R ps → AreRowsOf R ps rows → IsGraph R (network ps rows)
   graph_of rows a p = record { witnesses = a; each = λ i j h r. (p.each i h).each j r; all = λ i v h x. (p.each i h).all v x }
-
--- where v stands, between lo and hi
-abbrev pub IsBetween : List V2 → V2 → ℕ → ℕ → Type 0
-IsBetween ps v lo hi = (t : ℕ) → t < length ps → pair_at ps t ≡ v → (lo ≤ t) × (t < hi)
-
-module _ (ps : List V2) (v : V2) (s : AllPairs Precedes ps) (lo hi mid : ℕ) (b : IsBetween ps v lo hi) (x : V2) (l : mid < length ps) (e : x ≡ pair_at ps mid) where
-  pub go_low : Precedes v x → IsBetween ps v lo mid
-  go_low f t h q = let p = b t h q in (p.0, at_low)
-    where
-      at_low : t < mid
-      at_low = elim (dec_lt t mid) as (λ _. t < mid) [
-        | yes g ↦ g
-        | no g ↦ by_eq t mid
-            (λ z. absurd (not_itself v (subst (Precedes v) (e ∙ sym (ap (pair_at ps) z) ∙ q) f)))
-            (λ z. let u : Precedes x v = subst (λ (y : V2). Precedes y v) (sym e) (subst (Precedes (pair_at ps mid)) q (s mid t origin (omega arith) h)) in
-            let k : v.a ≡ x.a = omega (arith, ints, u.0, f.0) in
-            absurd (omega (arith, ints, u.1 (sym k), f.1 k)))
-      ]
-
-  pub go_high : NotAfter x v → IsBetween ps v mid hi
-  go_high f t h q = let p = b t h q in (at_high, p.1)
-    where
-      at_high : mid ≤ t
-      at_high = elim (dec_lt t mid) as (λ _. mid ≤ t) [
-        | yes g ↦ let u : Precedes v x = subst (Precedes v) (sym e) (subst (λ (y : V2). Precedes y (pair_at ps mid)) q (s t mid origin g l)) in
-            let k : x.a ≡ v.a = omega (arith, ints, u.0, f.0) in
-            absurd (omega (arith, ints, u.1 (sym k), f.1 k))
-        | no g ↦ omega arith
-      ]
-
-pub found_place : (ps : List V2) (v : V2) (lo hi : ℕ) → IsBetween ps v lo hi → Contains ps v → hi ≤ lo + 1 → (lo < length ps) × (pair_at ps lo ≡ v)
-found_place ps v lo hi b c g =
-    let q : pair_at ps c.0 ≡ v = get_or_default ps c.0 origin v c.1 ∙ c.2 in
-    let p = b c.0 c.1 q in
-    let e : c.0 ≡ lo = omega (arith, p.0, p.1) in
-    (omega (arith, c.1), subst (λ (t : ℕ). pair_at ps t ≡ v) e q)
