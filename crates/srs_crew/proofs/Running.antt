@@ -1,5 +1,7 @@
 -- Round after round.
-use Rattle.std.proofs.Common.{◌≡◌, ℕ, ◌+◌, ◌<◌, ◌≤◌, List, length, sym, ap₂, subst, ◌∙◌, arith}
+use Rattle.std.proofs.Common.{◌≡◌, ℕ, ◌+◌, ◌<◌, ◌≤◌, ◌==◌, List, [], length, take, drop, refl, sym, ap₂, subst, ◌∙◌, arith}
+use Rattle.std.proofs.lemmas.List.{take-append-drop, length-take-le}
+use Rattle.std.proofs.lemmas.Bool.Decides.{Decides-eqb}
 use Rattle.std.specs.Prelude.{IsSome}
 use Rattle.std.proofs.Math.Decide.{dec_lt}
 use Rattle.std.proofs.lemmas.Option.{same_Some}
@@ -13,16 +15,19 @@ use Rattle.srs_turn.specs.Prefixes.{Begins}
 use Rattle.srs_turn.proofs.PrefixLemmas.{begins_trans}
 use Rattle.srs_tree.specs.Tree.{History, outcome_at, IsCellOf}
 use Rattle.srs_tree.specs.Legality.{IsLegal}
-use Rattle.srs_tree.specs.Rounds.{upto, IsPlanned}
+use Rattle.srs_tree.specs.Rounds.{cells_of, upto, row_of, IsPlanned}
 use Rattle.srs_tree.specs.Snapshots.{Snapshot, StandsFor}
-use Rattle.srs_tree.proofs.Bounded.{last_at_depth, upto_within, depth_within, by_planned}
+use Rattle.srs_tree.proofs.Bounded.{last_at_depth, upto_within, depth_within, by_planned, count_some}
+use Rattle.srs_tree.proofs.CellsLemmas.{cells_are}
+use Rattle.srs_tree.proofs.TreeLemmas.{cell_of_outcome}
+use Rattle.srs_tree.proofs.Trees.{prefix_cell}
 use Rattle.srs_tree.proofs.PlannedWhole.{Closed, IsWhole-planned, IsInRounds-planned}
 use Rattle.srs_atlas.specs.declared.book.Terms.{Terms}
 use Rattle.srs_atlas.specs.declared.counts.Counts.{Counts}
 use Rattle.srs_atlas.specs.Books.{IsLawful}
 use Rattle.srs_atlas.specs.Counting.{AreCounts}
 use Rattle.srs_atlas.proofs.Entries.{closed_stays}
-use Rattle.srs_crew.specs.Rounds.{IsPlanRound, IsRoundDone, AreRowsDone}
+use Rattle.srs_crew.specs.Rounds.{IsPlanRound, IsRoundDone, AreRowsDone, AreAllDone}
 use Rattle.srs_crew.specs.Runs.{IsRun}
 
 pub rows_none : (H : History) → AreRowsDone H 0
@@ -68,7 +73,7 @@ module _ (terms : Terms) (L : Budget) (plan : terms.plan ≡ Some L) (budget : I
 
 module _ (terms : Terms) (L : Budget) (plan : terms.plan ≡ Some L) where
   -- where the rows down to the greatest depth are done, the history is whole
-  pub ran : (S J : History) (v : Snapshot) (Root : Area) → Root ≡ terms.root → AreRowsDone S (L.depth + 1) → Begins S J → IsLawful terms J → StandsFor terms.root J v → IsRun Root L (record { version = v; journal = J })
+  pub ran : (S J : History) (v : Snapshot) (Root : Area) → Root ≡ terms.root → AreRowsDone S (L.depth + 1) → Begins S J → IsLawful terms J → StandsFor terms.root J v → IsRun Root L (record { version = v; journal = J; transcripts = [] })
   ran S J v Root e rows b lawful stands =
       let planned : IsPlanned terms.root L J = lawful.planned L plan in
       let each : (path : List Side) → IsCellOf (outcome_at J) path → IsSome (outcome_at J path) = λ path cell.
@@ -78,4 +83,24 @@ module _ (terms : Terms) (L : Budget) (plan : terms.plan ≡ Some L) where
         whole = IsWhole-planned terms.root L J planned each;
         in_rounds = IsInRounds-planned terms.root L J planned;
         stands = stands;
+        silent = refl;
       })
+
+-- where no cell is of round k and the rows above it are done, all cells have their events
+pub none_left : (Root : Area) (W : ℕ) (H : History) (k : ℕ) → IsLegal Root W H → row_of H k ≡ 0 → AreRowsDone H k → AreAllDone H
+none_left Root W H k legal none rows = record { each = each }
+  where
+    each : (path : List Side) → IsCellOf (outcome_at H) path → IsSome (outcome_at H path)
+    each path cell = elim (dec_lt (length path) k) as (λ _. IsSome (outcome_at H path)) [
+      | yes l ↦ rows.each path cell l
+      | no l ↦
+          let long : length (take k path) ≡ k = length-take-le k path (omega (arith, l)) in
+          let above : IsCellOf (outcome_at H) (take k path) =
+            prefix_cell (outcome_at H) (cell_of_outcome Root W H legal) (take k path) (drop k path) (subst (IsCellOf (outcome_at H)) (sym (take-append-drop k path)) cell) in
+          let some = count_some (λ (p : List Side). length p == k) (cells_of H) (take k path) ((cells_are Root W H legal).from (take k path) above) ((Decides-eqb (length (take k path)) k).1 long) in
+          absurd (omega (arith, some, none))
+    ]
+
+-- all cells that are done are those of each row
+pub all_rows : (H : History) (k : ℕ) → AreAllDone H → AreRowsDone H k
+all_rows H k done = record { each = λ path cell _. done.each path cell }

@@ -8,4 +8,4 @@ mod single;
 mod workers;
 
 pub use rounds::{Job, level};
-pub use runs::{Run, run_levels};
+pub use runs::run_levels;

@@ -1,5 +1,5 @@
 // One round.
-ghost use Rattle.std.specs.Prelude.{◌≡◌, ◌<◌, ◌≤◌, length, OnOk, Some, None};
+ghost use Rattle.std.specs.Prelude.{◌≡◌, ◌<◌, ◌≤◌, [], length, IfOk, OnOk, Some, None};
 ghost use Rattle.srs_path.specs.Views.{Budget};
 ghost use Rattle.srs_turn.specs.Prefixes.{Begins};
 ghost use Rattle.srs_turn.specs.Passes.{IsPassOf};
@@ -13,6 +13,9 @@ use srs_atlas::{Atlas, AtlasPass, PendingList};
 use srs_claim::Claims;
 use srs_num::NoMemory;
 use srs_path::Last;
+use srs_refine::Refiner;
+use srs_session::{FreeGate, Gate};
+use srs_tree::{Script, Transcripts};
 use std::alloc::Global;
 use std::sync::Wait;
 use std::thread::Threads;
@@ -26,38 +29,45 @@ pub struct Job {
 }
 
 /// Refines the cells of the round, by 1 to 16 workers beside each other: each cell of the round that waited when the call
-/// began has then an event, and with a plan each cell of the round. An `Err` is want of memory; the history is lawful then too.
-pub fn level<R: Threads + Wait + Sync>(
+/// began has then an event, and with a plan each cell of the round. The script has no session yet, so nothing is said. An
+/// `Err` is want of memory; the history is lawful then too.
+pub fn level<R: Threads + Wait + Sync, G: Gate>(
     rt: &R,
     alloc: Global,
     atlas: &Atlas,
     pass: &mut AtlasPass,
     job: &Job,
-) -> Result<(), NoMemory>
+    script: &Script,
+    gate: &G,
+) -> Result<Transcripts, NoMemory>
     requires own { IsPassOf atlas.now pass.old }
     requires workers { (1 ≤ job.now.workers) × (job.now.workers ≤ 16) }
     requires room { job.now.last ≡ None → job.now.round < 48 }
+    requires no_session { script.now ≡ [] }
     requires plan { (L : Budget) → atlas.now.fixed.plan ≡ Some L → IsPlanRound L pass.old.seen job.now.round job.now.last }
     ensures own { IsPassOf atlas.now pass.new }
     ensures seen { Begins pass.old.seen pass.new.seen }
     ensures lawful { IsLawful atlas.now.fixed pass.new.seen }
     ensures done { OnOk result (IsRoundDone atlas.now.fixed job.now.round pass.old.seen pass.new.seen) }
+    ensures silent { IfOk result (λ said. said ≡ []) }
 {
     let waiting = atlas.pending(rt, alloc, pass)?;
     let cells = of_round(alloc, &waiting, job.round)?;
-    beside(rt, alloc, atlas, pass, &cells, job)?;
-    rest(rt, alloc, atlas, pass, job)
+    beside(rt, alloc, atlas, pass, &cells, job, gate)?;
+    rest(rt, alloc, atlas, pass, job)?;
+    Ok(Transcripts::new(alloc))
 }
 
 #[tactic(auto, using(crate::proofs::Working::lawful_longer))]
 // Workers draw from the cells. An `Err` is want of memory.
-fn beside<R: Threads + Wait + Sync>(
+fn beside<R: Threads + Wait + Sync, G: Gate>(
     rt: &R,
     alloc: Global,
     atlas: &Atlas,
     pass: &mut AtlasPass,
     cells: &PendingList,
     job: &Job,
+    gate: &G,
 ) -> Result<(), NoMemory>
     requires own { IsPassOf atlas.now pass.old }
     requires workers { (1 ≤ job.now.workers) × (job.now.workers ≤ 16) }
@@ -81,6 +91,7 @@ fn beside<R: Threads + Wait + Sync>(
         seat,
         cells,
         job.last,
+        gate,
         job.workers,
     );
     atlas.join_pass(pass, back);
@@ -128,7 +139,19 @@ fn settle_all<R: Wait>(
     for i in 0..cells.len() {
         let cell = cells.get(i);
         if cell.path.len() == job.round {
-            settle(rt, alloc, atlas, pass, cell, job.last)?;
+            let mut refiner = Refiner::new(alloc, atlas.w())?;
+            settle(
+                rt,
+                alloc,
+                atlas,
+                pass,
+                &mut refiner,
+                cell,
+                job.last,
+                &FreeGate,
+                0,
+                i,
+            )?;
         }
     }
     Ok(())

@@ -13,19 +13,25 @@ use srs_atlas::{Atlas, AtlasPass, Commit};
 use srs_cell::Cell;
 use srs_num::NoMemory;
 use srs_path::{Finding, Last};
-use srs_refine::refine;
+use srs_refine::Refiner;
+use srs_session::Gate;
 use srs_tree::Pending;
 use std::alloc::Global;
 use std::sync::Wait;
 
-// Refines the cell, and commits what was found. An `Err` is want of memory. With `Ok` the cell has an event.
-pub(crate) fn settle<R: Wait>(
+// Refines the cell, goes through the gate, and commits what was found. An `Err` is want of memory. With `Ok` the cell has
+// an event.
+pub(crate) fn settle<R: Wait, G: Gate>(
     rt: &R,
     alloc: Global,
     atlas: &Atlas,
     pass: &mut AtlasPass,
+    refiner: &mut Refiner,
     cell: &Pending,
     last: Option<Last>,
+    gate: &G,
+    who: u32,
+    piece: u64,
 ) -> Result<(), NoMemory>
     requires own { IsPassOf atlas.now pass.old }
     requires lawful { IsLawful atlas.now.fixed pass.old.seen }
@@ -35,7 +41,8 @@ pub(crate) fn settle<R: Wait>(
     ensures lawful { IsLawful atlas.now.fixed pass.new.seen }
     ensures done { OnOk result (IsSome (outcome_at pass.new.seen cell.now.path)) }
 {
-    let found = found(alloc, &cell.cell, last, atlas.w())?;
+    let found = found(alloc, refiner, &cell.cell, last, atlas.w())?;
+    gate.turn(rt, who, piece);
     match atlas.commit(rt, alloc, pass, cell.path, found) {
         Commit::Done(_) => Ok(()),
         Commit::Late(_) => Ok(()),
@@ -47,7 +54,13 @@ pub(crate) fn settle<R: Wait>(
 
 // The outcome of the cell, or that there was no memory for it. The region is copied first, so an `Err` is want of memory
 // for that alone.
-fn found(alloc: Global, cell: &Cell, last: Option<Last>, w: u32) -> Result<Finding, NoMemory>
+fn found(
+    alloc: Global,
+    refiner: &mut Refiner,
+    cell: &Cell,
+    last: Option<Last>,
+    w: u32,
+) -> Result<Finding, NoMemory>
     requires some { 1 ≤ w }
     requires few { w ≤ 16384 }
     ensures region { IfOk result (λ f. f.region ≡ cell.now) }
@@ -55,7 +68,7 @@ fn found(alloc: Global, cell: &Cell, last: Option<Last>, w: u32) -> Result<Findi
     ensures outcome { IfOk result (λ f. (f.outcome ≡ Left Memory) ⊎ Refines cell.now last w f.outcome) }
 {
     let region = cell.region().copy(alloc)?;
-    match refine(alloc, cell, last, w) {
+    match refiner.refine(alloc, cell, last, w) {
         Ok(finding) => Ok(finding),
         Err(NoMemory) => Ok(Finding::unfound(region, w)),
     }

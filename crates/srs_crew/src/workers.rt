@@ -10,12 +10,14 @@ use crate::single::settle;
 use srs_atlas::{Atlas, AtlasPass, PendingList};
 use srs_claim::{ClaimSeat, Claims};
 use srs_path::Last;
+use srs_refine::Refiner;
+use srs_session::Gate;
 use std::alloc::Global;
 use std::sync::Wait;
 use std::thread::{Threads, join};
 
-// Draws cells until none is left or there is no memory, and settles them.
-fn work<R: Wait>(
+// A worker draws cells until none is left or there is no memory, and settles them.
+fn work<R: Wait, G: Gate>(
     rt: &R,
     alloc: Global,
     atlas: &Atlas,
@@ -24,6 +26,8 @@ fn work<R: Wait>(
     mut seat: ClaimSeat,
     cells: &PendingList,
     last: Option<Last>,
+    gate: &G,
+    who: u32,
 ) -> (AtlasPass, ClaimSeat)
     requires own { IsPassOf atlas.now pass × (seat.of ≡ claims.now) }
     requires lawful { IsLawful atlas.now.fixed pass.seen }
@@ -33,11 +37,19 @@ fn work<R: Wait>(
     ensures seen { Begins pass.seen result.0.seen }
     ensures lawful { IsLawful atlas.now.fixed result.0.seen }
 {
+    let Ok(mut refiner) = Refiner::new(alloc, atlas.w()) else {
+        return (pass, seat);
+    };
     for _ in rt.forever() {
         let Some(i) = claims.draw(&mut seat) else {
             break;
         };
-        if settle(rt, alloc, atlas, &mut pass, cells.get(i), last).is_err() {
+        let cell = cells.get(i);
+        if settle(
+            rt, alloc, atlas, &mut pass, &mut refiner, cell, last, gate, who, i,
+        )
+        .is_err()
+        {
             break;
         }
     }
@@ -45,8 +57,8 @@ fn work<R: Wait>(
 }
 
 #[tactic(auto, using(crate::proofs::Working::lawful_longer))]
-// So many workers beside each other.
-pub(crate) fn crew<R: Threads + Wait + Sync>(
+// So many workers beside each other, numbered from 1.
+pub(crate) fn crew<R: Threads + Wait + Sync, G: Gate>(
     rt: &R,
     alloc: Global,
     atlas: &Atlas,
@@ -55,6 +67,7 @@ pub(crate) fn crew<R: Threads + Wait + Sync>(
     mut seat: ClaimSeat,
     cells: &PendingList,
     last: Option<Last>,
+    gate: &G,
     workers: u32,
 ) -> (AtlasPass, ClaimSeat)
     requires own { IsPassOf atlas.now pass × (seat.of ≡ claims.now) }
@@ -67,7 +80,7 @@ pub(crate) fn crew<R: Threads + Wait + Sync>(
     ensures lawful { IsLawful atlas.now.fixed result.0.seen }
 {
     if workers == 1 {
-        return work(rt, alloc, atlas, claims, pass, seat, cells, last);
+        return work(rt, alloc, atlas, claims, pass, seat, cells, last, gate, 1);
     }
     let other_pass = atlas.split_pass(&mut pass);
     let other_seat = claims.split(&mut seat);
@@ -88,6 +101,7 @@ pub(crate) fn crew<R: Threads + Wait + Sync>(
                 seat,
                 cells,
                 last,
+                gate,
                 workers - 1,
             )
         },
@@ -98,7 +112,7 @@ pub(crate) fn crew<R: Threads + Wait + Sync>(
             ensures lawful { IsLawful atlas.entry.now.fixed result.0.seen }
         {
             work(
-                rt, alloc, atlas, claims, other_pass, other_seat, cells, last,
+                rt, alloc, atlas, claims, other_pass, other_seat, cells, last, gate, workers,
             )
         },
     );

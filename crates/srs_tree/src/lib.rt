@@ -10,6 +10,7 @@ mod meetings;
 mod nodes;
 mod queries;
 mod refusals;
+mod sessions;
 mod sharing;
 mod versions;
 mod waiting;
@@ -20,6 +21,9 @@ pub use journals::Journal;
 pub use laws::{histories, one_answer, whole_trees};
 pub use queries::{Askable, Queries, Query, Said};
 pub use refusals::TreeErr;
+pub use sessions::{
+    AtMostEight, InTurn, Run, Script, Segment, Session, Transcript, Transcripts,
+};
 pub use sharing::shared;
 pub use versions::Version;
 pub use waiting::{Added, Pending, PendingList};
