@@ -1,6 +1,6 @@
-//! Sessions that ask questions while a tree is refined, and the gate that they and the workers go through.
+//! Sessions beside workers: for now only the gate before which both call.
 #![tactic(auto)]
 
-mod gates;
+mod gate;
 
-pub use gates::{FreeGate, Gate};
+pub use gate::{FreeGate, Gate};

@@ -21,9 +21,7 @@ pub use journals::Journal;
 pub use laws::{histories, one_answer, whole_trees};
 pub use queries::{Askable, Queries, Query, Said};
 pub use refusals::TreeErr;
-pub use sessions::{
-    AtMostEight, InTurn, Run, Script, Segment, Session, Transcript, Transcripts,
-};
+pub use sessions::{Ascending, Few, Run, Script, Segment, Session, Transcript, Transcripts};
 pub use sharing::shared;
 pub use versions::Version;
 pub use waiting::{Added, Pending, PendingList};

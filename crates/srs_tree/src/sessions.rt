@@ -1,44 +1,44 @@
-// What sessions ask while a tree is refined, what they are told, and what a run makes.
+// Sessions, what they are told, and what a run made.
 ghost use Rattle.std.specs.Prelude.{◌≤◌, length};
-ghost use Rattle.srs_tree.specs.Sessions.{AreInTurn, AreFew};
+ghost use Rattle.srs_tree.specs.Sessions.{AreAscending};
 
 use crate::{Journal, Queries, Said, Version};
 use srs_num::{Items, Kept};
 
-/// Questions that a session asks from the round `at` on.
+/// What is asked behind the round `at`, in its order.
 #[derive(Drop)]
 pub struct Segment {
     pub at: u32,
     pub queries: Queries,
 }
 
-/// The rounds of a session's segments ascend.
-pub struct InTurn;
+/// The segments of a list stand in ascending order of their rounds, none twice.
+pub struct Ascending;
 
-impl Kept<Segment> for InTurn {
-    ghost keeps = { AreInTurn };
+impl Kept<Segment> for Ascending {
+    ghost keeps = { AreAscending };
 }
 
-/// A session: its segments, whose rounds ascend.
-pub type Session = Items<Segment, InTurn>;
+/// Segments, seen as the list of them, strictly ascending by their rounds.
+pub type Session = Items<Segment, Ascending>;
 
-/// There are at most 8 sessions.
-pub struct AtMostEight;
+/// A list has at most eight sessions.
+pub struct Few;
 
-impl Kept<Session> for AtMostEight {
-    ghost keeps = { AreFew };
+impl Kept<Session> for Few {
+    ghost keeps = { λ sessions. length sessions ≤ 8 };
 }
 
-/// The sessions of a run, at most 8.
-pub type Script = Items<Session, AtMostEight>;
+/// At most eight sessions, seen as the list of them.
+pub type Script = Items<Session, Few>;
 
-/// What a session is told, in order.
+/// What a session was told, seen as the list of it.
 pub type Transcript = Items<Said>;
 
-/// What each session is told.
+/// What each session was told, seen as the list of the lists, in the order of the sessions.
 pub type Transcripts = Items<Transcript>;
 
-/// What a run makes: a history, the version that stands for it, and what its sessions were told.
+/// What a run made: the version, the history that it stands for, and what each session was told.
 #[derive(Drop)]
 pub struct Run {
     pub version: Version,
