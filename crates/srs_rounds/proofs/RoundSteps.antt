@@ -1,6 +1,7 @@
 -- From the start of a round to its end, one cell at a time.
-use Rattle.std.proofs.Common.{◌≡◌, ◌≢◌, inl, inr, ℕ, zero, suc, ◌+◌, ◌<◌, ◌≤◌, List, [], ◌∷◌, ◌++◌, drop, map, length, length-append, get_or, refl, sym, ap, ap₂, subst, ◌∙◌, arith, append_assoc, append-nil, Some, None}
-use Rattle.std.specs.Prelude.{Contains}
+use Rattle.std.proofs.Common.{◌≡◌, ◌≢◌, inl, inr, ℕ, zero, suc, ◌+◌, ◌<◌, ◌≤◌, Bool, true, List, [], ◌∷◌, ◌++◌, drop, map, length, length-append, get_or, refl, sym, ap, ap₂, subst, ◌∙◌, arith, append_assoc, append-nil, Some, None}
+use Rattle.std.specs.Prelude.{Contains, ◌==◌}
+use Rattle.std.proofs.lemmas.Bool.{eqb-true}
 use Rattle.std.specs.List.{AllByRecursion}
 use Rattle.std.specs.FinMap as finite
 use Rattle.std.specs.declared.option.Option.{Option}
@@ -30,7 +31,7 @@ use Rattle.srs_tree.proofs.StandsLemmas.{Stands-empty, Stands-append}
 use Rattle.srs_tree.proofs.QueueLemmas.{queue_is, done, closed_by_queue}
 use Rattle.srs_tree.proofs.RoundCounts.{upto_all, row_waits, queue_pops}
 use Rattle.srs_tree.proofs.Bounded.{last_fits, last_at_depth}
-use Rattle.srs_tool.specs.Refined.{IsRefined, IsUnderway, AreAtDepth, StartsRound, IsInRound, GetsOutcome}
+use Rattle.srs_rounds.specs.Refined.{IsRefined, IsUnderway, AreAtDepth, StartsRound, IsInRound, GetsOutcome}
 
 -- lists that are made by a map
 module _ {X Y : Type 0} where
@@ -275,20 +276,21 @@ module _ (Root : Area) (b : Budget) (k cells : ℕ) where
         room None q = let n = last_fits b k cells pending q in let f = s.few in omega (arith, n, f)
         room (Some l) q = let n = ap length (s.uncut (λ m. none-some l (sym m ∙ q))) in omega (arith, n, fits)
 
--- past the greatest depth the tree is whole
-pub finished : (Root : Area) (b : Budget) (k cells : ℕ) (v : Snapshot) (waiting : List WaitingCell) → b.depth < k → StartsRound Root b k cells v waiting → IsRefined Root b v
-finished Root b k cells v waiting past s =
-    let empty : queue_of s.history ≡ [] = none (queue_of s.history) (sym s.underway.waits ∙ s.past past) in
-    let t = done Root b s.history s.underway.planned empty in
-    record { history = s.history; plan = record { whole = t.0; no_memory = s.underway.no_memory }; in_rounds = t.1; stands = s.underway.stands }
-  where
-    none : (q : List (List Side)) → map (cell_in v) q ≡ [] → q ≡ []
-    none [] e = refl
-    none (p ∷ q) e = absurd (omega (arith, ap length e))
+pub none_left : (cells : List WaitingCell) (n : ℕ) (b : Bool) → b ≡ (n == 0) → b ≡ true → length cells ≡ n → cells ≡ []
+none_left [] n b e t l = refl
+none_left (c ∷ cells) n b e t l = let none = eqb-true n 0 (sym e ∙ t) in absurd (omega (arith, none, l))
 
--- the region of a version in a round is the root region
-pub same_root : (Root : Area) (b : Budget) (k cells : ℕ) (v : Snapshot) (waiting : List WaitingCell) → StartsRound Root b k cells v waiting → v.region ≡ Root
-same_root Root b k cells v waiting s = s.underway.stands.region
+-- where none waits, the tree is whole
+pub finished : (Root : Area) (b : Budget) (k cells : ℕ) (v w : Snapshot) (waiting : List WaitingCell) → waiting ≡ [] → w ≡ v → StartsRound Root b k cells v waiting → IsRefined Root b w
+finished Root b k cells v w waiting none same s =
+    let empty : queue_of s.history ≡ [] = no_path (queue_of s.history) (sym s.underway.waits ∙ none) in
+    let t = done Root b s.history s.underway.planned empty in
+    subst (IsRefined Root b) (sym same)
+    (record { history = s.history; plan = record { whole = t.0; no_memory = s.underway.no_memory }; in_rounds = t.1; stands = s.underway.stands })
+  where
+    no_path : (q : List (List Side)) → map (cell_in v) q ≡ [] → q ≡ []
+    no_path [] e = refl
+    no_path (p ∷ q) e = absurd (omega (arith, ap length e))
 
 -- the cells from the place i on begin with the one there
 pub rest_at : (cells : List WaitingCell) (i : ℕ) (x : WaitingCell) → i < length cells → x ≡ get_or cells i x → drop i cells ≡ x ∷ drop (i + 1) cells

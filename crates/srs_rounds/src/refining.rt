@@ -3,13 +3,13 @@ ghost use Rattle.std.specs.Prelude.{◌≡◌, ◌+◌, ◌<◌, ◌≤◌, ◌+
 ghost use Rattle.srs_tree.specs.Tree.{region_at};
 ghost use Rattle.srs_tree.specs.Snapshots.{tree_of};
 ghost use Rattle.srs_tree.specs.Growth.{IsOpenIn};
-ghost use Rattle.srs_tool.specs.Refined.{IsRefined, StartsRound, GetsOutcome};
+ghost use Rattle.srs_rounds.specs.Refined.{IsRefined, StartsRound, GetsOutcome};
 
 use srs_cell::Cell;
 use srs_num::NoMemory;
 use srs_path::{Last, Limits};
 use srs_refine::Refiner;
-use srs_tree::{Pending, TreeErr, Version};
+use srs_tree::{Pending, TreeBuilder, TreeErr, Version};
 use std::alloc::Global;
 
 /// The tree of the cell, which has at most 16 halves: round by round, each cell has the outcome of its region, and a limit
@@ -18,24 +18,27 @@ pub fn rounds(alloc: Global, cell: Cell, limits: &Limits) -> Result<Version, NoM
     requires { length cell ≤ 16 }
     ensures { IfOk result (IsRefined cell limits.now) }
 {
-    let mut version = Version::start(alloc, cell)?;
+    let mut tree = TreeBuilder::start(alloc, cell)?;
     let mut refiner = Refiner::new(alloc, limits.wits())?;
     let mut waiting = Vec::new(alloc);
-    push(&mut waiting, version.root()?)?;
+    waiting.push(tree.root()?)?;
     let mut cells = 1;
     for number in 0..limits.depth() + 1 {
+        if waiting.is_empty() {
+            return Ok(tree.finish());
+        }
         waiting = refine_round(
             alloc,
             &mut refiner,
             limits,
             number,
             cells,
-            &mut version,
+            &mut tree,
             &waiting,
         )?;
         cells += waiting.len() as u64;
     }
-    Ok(version)
+    Ok(tree.finish())
 }
 
 // Refines the cells of a round, where the tree has so many cells, and gives those of the next.
@@ -45,18 +48,18 @@ fn refine_round(
     limits: &Limits,
     number: u32,
     cells: u64,
-    version: &mut Version,
+    tree: &mut TreeBuilder,
     waiting: &[Pending],
 ) -> Result<Vec<Pending>, NoMemory>
-    requires start { StartsRound version.old.region limits.now number cells version.old waiting.now }
+    requires start { StartsRound tree.old.region limits.now number cells tree.old waiting.now }
     requires shallow { number ≤ limits.now.depth }
-    ensures next { IfOk result (λ next. StartsRound version.old.region limits.now (number + 1) (cells + vec_len next) version.new next.items) }
+    ensures next { IfOk result (λ next. StartsRound tree.old.region limits.now (number + 1) (cells + vec_len next) tree.new next.items) }
 {
     let wits = limits.wits();
     let last = limits.last(number, cells, waiting.len() as u64);
     let mut next = Vec::new(alloc);
     for pending in waiting {
-        refine_cell(alloc, refiner, wits, last, version, pending, &mut next)?;
+        refine_cell(alloc, refiner, wits, last, tree, pending, &mut next)?;
     }
     Ok(next)
 }
@@ -67,35 +70,26 @@ fn refine_cell(
     refiner: &mut Refiner,
     wits: u32,
     last: Option<Last>,
-    version: &mut Version,
+    tree: &mut TreeBuilder,
     pending: &Pending,
     next: &mut Vec<Pending>,
 ) -> Result<(), NoMemory>
     requires some { 1 ≤ wits }
     requires bounded { wits ≤ 16384 }
-    requires waits { IsOpenIn (tree_of version.old) pending.now.path }
-    requires region { pending.now.region ≡ region_at version.old.region (tree_of version.old) pending.now.path }
+    requires waits { IsOpenIn (tree_of tree.old) pending.now.path }
+    requires region { pending.now.region ≡ region_at tree.old.region (tree_of tree.old) pending.now.path }
     requires short { last ≡ None → length pending.now.path < 48 }
-    ensures { OnOk result (GetsOutcome last wits version.old version.new pending.now next.old.items next.new.items) }
+    ensures { OnOk result (GetsOutcome last wits tree.old tree.new pending.now next.old.items next.new.items) }
 {
     let finding = refiner.refine(alloc, &pending.cell, last, wits)?;
-    match version.add(alloc, pending.path, finding) {
+    match tree.add(alloc, pending.path, finding) {
         Ok(Some((ge, lt))) => {
-            push(next, ge)?;
-            push(next, lt)
+            next.push(ge)?;
+            next.push(lt)?;
+            Ok(())
         }
         Ok(None) => Ok(()),
         Err(TreeErr::NoMemory(_)) => Err(NoMemory),
         Err(_) => unreachable!(),
-    }
-}
-
-// One cell more. An `Err` is want of memory.
-fn push(cells: &mut Vec<Pending>, cell: Pending) -> Result<(), NoMemory>
-    ensures { OnOk result (cells.new.items ≡ cells.old.items ++ cell ∷ []) }
-{
-    match cells.push(cell) {
-        Ok(()) => Ok(()),
-        Err(_) => Err(NoMemory),
     }
 }
