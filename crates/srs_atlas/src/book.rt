@@ -13,7 +13,7 @@ use srs_cell::Cell;
 use srs_num::NoMemory;
 use srs_path::{Event, Finding, Limits, Path};
 use srs_plane::Region;
-use srs_tree::{Added, Journal, Pending, PendingList, Version};
+use srs_tree::{Grown, Journal, Pending, PendingList, Version};
 use srs_turn::Told;
 use std::alloc::Global;
 use std::marker::Model;
@@ -100,8 +100,13 @@ impl Book {
         if self.events.reserve(1).is_err() || self.waiting.reserve(2).is_err() {
             return Commit::NoMemory(f);
         }
-        match self.version.enter(alloc, path, f) {
-            Ok(Added { outcome, parts }) => {
+        match self.version.grown(alloc, path, f) {
+            Ok(Grown {
+                version,
+                outcome,
+                parts,
+            }) => {
+                self.version = version;
                 let Some(at) = place_of(&self.waiting, &path) else {
                     unreachable!()
                 };

@@ -16,7 +16,7 @@ use srs_cell::Cell;
 use srs_file::Cert;
 use srs_num::NoMemory;
 use srs_path::{Event, Finding, Outcome};
-use srs_tree::{Pending, TreeErr, Version};
+use srs_tree::{Pending, TreeBuilder, TreeErr, Version};
 use std::alloc::Global;
 
 /// What a build answers: each node proves itself, with the version of the tree and the counts; or the line and the fault
@@ -34,8 +34,8 @@ pub fn build(alloc: Global, c: &Cert) -> Result<Built, NoMemory>
 {
     let nodes = node_count(c);
     let rows = rows_of(c);
-    let mut version = Version::start(alloc, root_of(alloc, c)?)?;
-    let mut waiting = Waiting::of(alloc, version.root()?);
+    let mut tree = TreeBuilder::start(alloc, root_of(alloc, c)?)?;
+    let mut waiting = Waiting::of(alloc, tree.root()?);
     for i in 0..nodes {
         let Some(next) = waiting.take() else {
             unreachable!()
@@ -44,29 +44,29 @@ pub fn build(alloc: Global, c: &Cert) -> Result<Built, NoMemory>
         if let Err(fault) = check_node(c, &rows, &next.cell, event) {
             return Ok(Built::Bad(c.line(i), fault));
         }
-        if let Some((ge, lt)) = enter(alloc, &mut version, event, &next.cell)? {
+        if let Some((ge, lt)) = enter(alloc, &mut tree, event, &next.cell)? {
             waiting.divide(ge, lt)?;
         }
     }
-    Ok(Built::Valid(version, count_nodes(c)))
+    Ok(Built::Valid(tree.finish(), count_nodes(c)))
 }
 
 // The event comes to the cell at its path, which is open, and the cells that it makes are given.
 fn enter(
     alloc: Global,
-    version: &mut Version,
+    tree: &mut TreeBuilder,
     event: &Event,
     cell: &Cell,
 ) -> Result<Option<(Pending, Pending)>, NoMemory>
-    requires is_open { IsOpenIn (tree_of version.old) event.now.path }
-    requires same { cell.now ≡ region_at version.old.region (tree_of version.old) event.now.path }
+    requires is_open { IsOpenIn (tree_of tree.old) event.now.path }
+    requires same { cell.now ≡ region_at tree.old.region (tree_of tree.old) event.now.path }
     requires short { IsShortCut event.now.path event.now.outcome }
     requires proved { IsProvedOf cell.now event.now.outcome }
-    ensures entered { OnOk result (version.new ≡ with_entry version.old event.now.path (as_built event.now.outcome)) }
-    ensures parts { IfOk result (λ parts. cells_from parts ≡ map (cell_in version.new) (parts_by event.now.path (as_built event.now.outcome))) }
+    ensures entered { OnOk result (tree.new ≡ with_entry tree.old event.now.path (as_built event.now.outcome)) }
+    ensures parts { IfOk result (λ parts. cells_from parts ≡ map (cell_in tree.new) (parts_by event.now.path (as_built event.now.outcome))) }
 {
     let found = finding(alloc, cell, &event.outcome)?;
-    match version.add(alloc, event.path, found) {
+    match tree.add(alloc, event.path, found) {
         Ok(parts) => Ok(parts),
         Err(TreeErr::NoMemory(_)) => Err(NoMemory),
         Err(TreeErr::NotThere(_) | TreeErr::Done(_) | TreeErr::OtherCell(_)) => unreachable!(),

@@ -16,14 +16,15 @@ use std::alloc::Global;
 use std::sync::Wait;
 use std::thread::{Threads, join};
 
+#[tactic(auto, using(srs_turn::proofs::PrefixLemmas::begins_refl))]
 // A worker draws cells until none is left or there is no memory, and settles them.
 fn work<R: Wait, G: Gate>(
     rt: &R,
     alloc: Global,
     atlas: &Atlas,
     claims: &Claims,
-    mut pass: AtlasPass,
-    mut seat: ClaimSeat,
+    pass: AtlasPass,
+    seat: ClaimSeat,
     cells: &PendingList,
     last: Option<Last>,
     gate: &G,
@@ -37,19 +38,55 @@ fn work<R: Wait, G: Gate>(
     ensures seen { Begins pass.seen result.0.seen }
     ensures lawful { IsLawful atlas.now.fixed result.0.seen }
 {
-    let Ok(mut refiner) = Refiner::new(alloc, atlas.w()) else {
-        return (pass, seat);
-    };
+    match Refiner::new(alloc, atlas.w()) {
+        Ok(mut refiner) => draw_all(
+            rt,
+            alloc,
+            atlas,
+            claims,
+            pass,
+            seat,
+            &mut refiner,
+            cells,
+            last,
+            gate,
+            who,
+        ),
+        Err(_) => (pass, seat),
+    }
+}
+
+// Draws cells until none is left or there is no memory, and settles them.
+fn draw_all<R: Wait, G: Gate>(
+    rt: &R,
+    alloc: Global,
+    atlas: &Atlas,
+    claims: &Claims,
+    mut pass: AtlasPass,
+    mut seat: ClaimSeat,
+    refiner: &mut Refiner,
+    cells: &PendingList,
+    last: Option<Last>,
+    gate: &G,
+    who: u32,
+) -> (AtlasPass, ClaimSeat)
+    requires own { IsPassOf atlas.now pass × (seat.of ≡ claims.now) }
+    requires lawful { IsLawful atlas.now.fixed pass.seen }
+    requires work { AreWork atlas.now.fixed pass.seen last cells.now }
+    requires few { claims.now.n ≤ length cells.now }
+    ensures own { IsPassOf atlas.now result.0 × (result.1.of ≡ claims.now) }
+    ensures seen { Begins pass.seen result.0.seen }
+    ensures lawful { IsLawful atlas.now.fixed result.0.seen }
+{
     for _ in rt.forever() {
         let Some(i) = claims.draw(&mut seat) else {
             break;
         };
         let cell = cells.get(i);
-        if settle(
-            rt, alloc, atlas, &mut pass, &mut refiner, cell, last, gate, who, i,
-        )
-        .is_err()
-        {
+        let settled = settle(
+            rt, alloc, atlas, &mut pass, refiner, cell, last, gate, who, i,
+        );
+        if settled.is_err() {
             break;
         }
     }

@@ -102,28 +102,33 @@ impl Finding {
         }
     }
 
-    /// Two owners of the outcome. An `Err` is want of memory, and gives the finding back.
-    pub fn shared(self, alloc: Global) -> Result<(Arc<Outcome>, Arc<Outcome>), Finding>
-        ensures first { IfOk result (λ owners. arc_value owners.0 ≡ self.outcome) }
-        ensures second { IfOk result (λ owners. arc_value owners.1 ≡ self.outcome) }
-        ensures sound { IsSound self.region self.w self.outcome }
+    /// An owner of the outcome, and the finding, which has it in common with the owner. An `Err` is want of memory, and gives
+    /// the finding back.
+    pub fn share_outcome(self, alloc: Global) -> Result<(Arc<Outcome>, Finding), Finding>
+        ensures owner { IfOk result (λ shared. arc_value shared.0 ≡ self.outcome) }
+        ensures finding { IfOk result (λ shared. shared.1 ≡ self) }
         ensures err { IfErr result (λ f. f ≡ self) }
     {
         let Finding { region, w, held } = self;
-        match owner(alloc, held) {
-            Ok(outcome) => match Arc::try_clone(&outcome) {
-                Ok(other) => Ok((outcome, other)),
-                Err(_) => Err(Finding {
+        let outcome = match owner(alloc, held) {
+            Ok(outcome) => outcome,
+            Err(outcome) => {
+                return Err(Finding {
                     region,
                     w,
-                    held: Held::Shared(outcome),
-                }),
-            },
-            Err(outcome) => Err(Finding {
-                region,
-                w,
-                held: Held::Own(outcome),
-            }),
+                    held: Held::Own(outcome),
+                });
+            }
+        };
+        let copy = Arc::try_clone(&outcome);
+        let f = Finding {
+            region,
+            w,
+            held: Held::Shared(outcome),
+        };
+        match copy {
+            Ok(copy) => Ok((copy, f)),
+            Err(_) => Err(f),
         }
     }
 }

@@ -13,7 +13,7 @@ use Rattle.srs_tree.proofs.PartitionAll.{IsPartition-legal}
 use Rattle.srs_tree.proofs.PlannedSteps.{outcome_of_event}
 use Rattle.srs_file.specs.Certificates.{cert_text}
 use Rattle.srs_tool.specs.Output.{IsCertificateOf}
-use Rattle.srs_tool.specs.Refined.{IsRefined}
+use Rattle.srs_rounds.specs.Refined.{IsRefined}
 
 -- in preorder the events list a whole tree within the limits
 pub refined_listed : (b : Budget) (R : Area) (v : Snapshot) → IsBudget b → IsRefined R b v → ListsWholeTree (preorder_of v) × IsWithin b (preorder_of v)

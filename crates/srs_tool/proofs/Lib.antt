@@ -1,7 +1,6 @@
 pub mod WordLemmas
 pub mod Telling
 pub mod Completing
-pub mod RoundSteps
 pub mod Certifying
 pub mod Drawing
 pub mod Replying

@@ -4,4 +4,3 @@ pub mod Replies
 pub mod Output
 pub mod Ends
 pub mod Exit
-pub mod Refined

@@ -6,7 +6,6 @@ ghost use Rattle.srs_tool.specs.declared.words.Command.TheVariants.{Certify};
 ghost use Rattle.srs_tool.specs.Output.{IsCertificateOf};
 ghost use Rattle.srs_tool.specs.Ends.{Tells};
 
-use crate::rounds::rounds;
 use crate::say::{refuse, say};
 use crate::status::Status;
 use crate::words::Command;
@@ -16,6 +15,7 @@ use srs_num::NoMemory;
 use srs_path::Limits;
 use srs_plane::Vertices;
 use srs_print::put_cert;
+use srs_rounds::rounds;
 use srs_text::{Bytes, Sink};
 use std::alloc::Global;
 

@@ -5,7 +5,7 @@ use Rattle.std.specs.declared.result.Result.{Result}
 use Rattle.std.specs.List.{filter}
 use Rattle.std.specs.declared.option.Option.{Option}
 use Rattle.std.specs.FinMap as finite
-use Rattle.std.proofs.lemmas.Option.{none-some, slice_get_read}
+use Rattle.std.proofs.lemmas.Option.{none-some}
 use Rattle.std.proofs.lemmas.List.{map-append}
 use Rattle.srs_num.specs.Points.{LinearForm}
 use Rattle.srs_path.specs.declared.paths.Side.{Side}
@@ -95,10 +95,6 @@ module _ (xs : List Spot) (tree : AreSpots xs) where
 
 pub path_depth : (xs : List Spot) (i : ℕ) (x : Spot) → slice_get xs i ≡ Some x → (p : List Side) → p ≡ x.path → depth_at xs i ≡ length p
 path_depth xs i x e p q = ap depth_of e ∙ sym (ap length q)
-
--- a spot that was read
-pub read_at : (xs : List Spot) (i : ℕ) (x : Spot) → i < length xs → x ≡ get_or xs i x → slice_get xs i ≡ Some x
-read_at xs i x l e = slice_get_read xs (length xs) i x refl l e
 
 -- what holds of the answer where it is Ok
 pub on_ok : {A E P Q : Type 0} (r : Result A E) → (P → Q) → OnOk r P → OnOk r Q

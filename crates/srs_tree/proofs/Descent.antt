@@ -1,6 +1,6 @@
 -- The descent along a path, from the root's spot down.
 use Rattle.std.proofs.Common.{◌≡◌, ℕ, ◌+◌, ◌<◌, List, [], ◌∷◌, ◌++◌, length, take, drop, get_or, slice_get, sym, ap, subst, ◌∙◌, take-append-drop, Some}
-use Rattle.std.proofs.lemmas.Option.{slice_get_within, get_or_from_slice_get}
+use Rattle.std.proofs.lemmas.Option.{same_Some, slice_get_within, get_or_from_slice_get}
 use Rattle.std.proofs.lemmas.List.{take_more}
 use Rattle.std.proofs.Math.Seq.{drop-cons}
 use Rattle.srs_num.specs.Points.{LinearForm}
@@ -14,10 +14,10 @@ use Rattle.srs_tree.proofs.Trees.{IsClosed, none_below, longest_cell}
 use Rattle.srs_tree.proofs.Spots.{tree_some, tree_there}
 
 -- a spot that was read at a place
-pub read_spot : (xs : List Spot) (p : List Side) (i : ℕ) (x : Spot) → IsPlaceOf xs p i → x ≡ get_or xs i x → (slice_get xs i ≡ Some x) × (x.path ≡ p)
+pub read_spot : (xs : List Spot) (p : List Side) (i : ℕ) (x : Spot) → IsPlaceOf xs p i → slice_get xs i ≡ Some x → (slice_get xs i ≡ Some x) × (x.path ≡ p)
 read_spot xs p i x at e =
-    let same : at.spot ≡ x = sym (get_or_from_slice_get xs i at.spot x at.is) ∙ sym e in
-    (at.is ∙ ap Some same, ap (λ (z : Spot). z.path) (sym same) ∙ at.path)
+    let same : at.spot ≡ x = same_Some at.spot x (sym at.is ∙ e) in
+    (e, ap (λ (z : Spot). z.path) (sym same) ∙ at.path)
 
 module _ (xs : List Spot) (tree : AreSpots xs) where
   -- entries stand at cells

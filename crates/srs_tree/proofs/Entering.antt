@@ -1,6 +1,7 @@
 -- One entry more, from the open cell to the snapshot.
-use Rattle.std.proofs.Common.{◌≡◌, inl, ℕ, zero, suc, ◌+◌, ◌≤◌, ◌<◌, List, [], ◌∷◌, ◌++◌, length, get_or, slice_get, refl, sym, ap, ap₂, subst, ◌∙◌, arith, Some, None}
-use Rattle.std.specs.Prelude.{slice_set}
+use Rattle.std.proofs.Common.{◌≡◌, inl, ℕ, zero, suc, ◌+◌, ◌≤◌, ◌<◌, ◌^◌, List, [], ◌∷◌, ◌++◌, length, get_or, slice_get, refl, sym, ap, ap₂, subst, ◌∙◌, arith, Some, None}
+use Rattle.std.specs.Prelude.{slice_set, OnOk, Ok, Err}
+use Rattle.std.specs.declared.result.Result.{Result}
 use Rattle.std.specs.declared.option.Option.{Option}
 use Rattle.std.specs.FinMap as finite
 use Rattle.std.specs.Cmp.Lexicographic.{slice_cmp}
@@ -16,7 +17,8 @@ use Rattle.srs_tree.specs.declared.refusals.TreeErr.TheVariants.{NotThere, Done,
 use Rattle.srs_tree.specs.Tree.{IsCellOf, region_at}
 use Rattle.srs_tree.specs.Growth.{IsProvedOf, IsShortCut, IsOpenIn, IsTreeErr, SaysDone, SaysOther}
 use Rattle.srs_tree.specs.Snapshots.{side_cmp, Snapshot, tree_of, with_entry}
-use Rattle.srs_tree.specs.Nodes.{Spot, entries_of, root_of, snapshot_of, spots_tree, IsSpotOf, AreSpots, IsPlaceOf, parts_from, grown, IsReadyFor, MaySettle, IsOpenAt, IsCounted, HasGrown}
+use Rattle.srs_tree.specs.Nodes.{Spot, entries_of, root_of, snapshot_of, spots_tree, IsSpotOf, AreSpots, IsPlaceOf, parts_from, spot_with, grown, IsReadyFor, MaySettle, IsOpenAt, IsCounted, HasGrown}
+use Rattle.srs_tree.proofs.Places.{set_left}
 use Rattle.srs_tree.proofs.Growing.{are_spots, snapshot_after, len_after, entries_fewer}
 use Rattle.srs_tree.proofs.Spots.{tree_there}
 use Rattle.srs_tree.proofs.Descent.{read_spot, spots_closed}
@@ -38,8 +40,8 @@ module _ (xs : List Spot) (p : List Side) (f : Found) (i : ℕ) (tree : AreSpots
       few : length at.spot.region ≤ 16 + length at.spot.path → length at.spot.path ≡ length p → length at.spot.region < 80
       few a b = omega (arith, a, b, short)
 
-  pub has_grown : (ys : List Spot) → IsSound f.region f.w f.outcome → ((x : Spot) → slice_get xs i ≡ Some x → ys ≡ grown xs i x f.outcome) → HasGrown xs ys p f
-  has_grown ys sound is =
+  pub has_grown : (ys : List Spot) → length xs ≤ 2 ^ 48 → IsSound f.region f.w f.outcome → ((x : Spot) → slice_get xs i ≡ Some x → ys ≡ grown xs i x f.outcome) → HasGrown xs ys p f
+  has_grown ys most sound is =
       let proved : IsProvedOf at.spot.region f.outcome = subst (λ (R : Area). IsProvedOf R f.outcome) (sym at.region) (proved_of f.region f.w f.outcome sound) in
       let same : ys ≡ grown xs i at.spot f.outcome = is at.spot at.is in
       record {
@@ -47,8 +49,14 @@ module _ (xs : List Spot) (p : List Side) (f : Found) (i : ℕ) (tree : AreSpots
         spots = subst AreSpots (sym same) (are_spots xs i at.spot f.outcome tree at.is at.fresh proved);
         snapshot = ap snapshot_of same ∙ snapshot_after xs i at.spot f.outcome tree at.is at.fresh proved ∙ ap (λ (q : List Side). with_entry (snapshot_of xs) q f.outcome) at.at_path;
         count = ap (λ (zs : List Spot). finite.len (entries_of zs)) same ∙ len_after xs i at.spot f.outcome tree at.is at.fresh proved;
-        few = entries_fewer xs i at.spot at.is at.fresh;
+        few = let less = entries_fewer xs i at.spot at.is at.fresh in omega (arith, less, most);
       }
+
+  -- the same, where the finding came
+  pub grown_ok : {A E : Type 0} (ys : List Spot) (r : Result A E) → OnOk r ((x : Spot) → slice_get xs i ≡ Some x → ys ≡ grown xs i x f.outcome) → OnOk r (length xs ≤ 2 ^ 48)
+      → OnOk r (IsSound f.region f.w f.outcome) → OnOk r (HasGrown xs ys p f)
+  grown_ok ys (Ok a) is most sound = has_grown ys most sound is
+  grown_ok ys (Err e) is most sound = is
 
 -- a finding that may come is proved
 pub may_settle : (x : Spot) (f : Found) → IsReadyFor x f → IsSound f.region f.w f.outcome → MaySettle x f.outcome
@@ -73,7 +81,7 @@ other_err v p f R (OtherCell d) c h n s = (c, s ∙ h, λ q. n (sym (q ∙ s)))
 other_err v p f R (NoMemory g) c h n s = s
 
 -- the answers at a place, by the spot x that was read there
-module _ (xs : List Spot) (p : List Side) (i : ℕ) (x : Spot) (tree : AreSpots xs) (at : IsPlaceOf xs p i) (read : x ≡ get_or xs i x) where
+module _ (xs : List Spot) (p : List Side) (i : ℕ) (x : Spot) (tree : AreSpots xs) (at : IsPlaceOf xs p i) (read : slice_get xs i ≡ Some x) where
   here : (slice_get xs i ≡ Some x) × (x.path ≡ p)
   here = read_spot xs p i x at read
 
@@ -125,20 +133,22 @@ one_spot R some few = record {
     })
     each (suc i) x e = absurd (none-some x e)
 
--- the spots after the write and the pushes
-pub grown_by : (xs ys : List Spot) (i n : ℕ) (r w : Spot) (o : Outcome) (x : Spot) → r ≡ get_or xs i r → n ≡ length xs → w ≡ record { path = r.path; region = r.region; outcome = Some o; parts = n } → slice_get xs i ≡ Some x → ys ≡ parts_from x o → slice_set xs i w ++ ys ≡ grown xs i x o
-grown_by xs ys i n r w o x read len is e parts =
-    let same : r ≡ x = read ∙ get_or_from_slice_get xs i x r e in
-    let to : w ≡ record { path = x.path; region = x.region; outcome = Some o; parts = length xs }
-    = is ∙ ap₂ (λ (y : Spot) (m : ℕ). let z : Spot = record { path = y.path; region = y.region; outcome = Some o; parts = m } in z) same len in
-    ap₂ (λ (z : Spot) (zs : List Spot). slice_set xs i z ++ zs) to parts
+-- the spots after the parts came and the outcome was written
+pub grown_by : (xs zs ys ps : List Spot) (i n : ℕ) (r w x : Spot) (o : Outcome) → i < length xs → slice_get xs i ≡ Some r → n ≡ length xs → w ≡ spot_with r o n → zs ≡ xs ++ ps → ys ≡ slice_set zs i w
+    → slice_get xs i ≡ Some x → ps ≡ parts_from x o → ys ≡ grown xs i x o
+grown_by xs zs ys ps i n r w x o l read len is more set e parts =
+    let same : r ≡ x = same_Some r x (sym read ∙ e) in
+    let to : w ≡ spot_with x o (length xs) = is ∙ ap₂ (λ (y : Spot) (m : ℕ). spot_with y o m) same len in
+    set ∙ ap (λ (u : List Spot). slice_set u i w) more ∙ set_left xs ps i w l
+    ∙ ap₂ (λ (z : Spot) (zs : List Spot). slice_set xs i z ++ zs) to parts
 
--- the same, where the list was moved
-pub grown_moved : (xs zs ys ps : List Spot) (i : ℕ) (o u w : Outcome) (r x : Spot) → zs ≡ xs → o ≡ u → w ≡ u → r ≡ get_or xs i r → ps ≡ parts_from r w → ((y : Spot) → slice_get zs i ≡ Some y → ps ≡ parts_from y o → ys ≡ grown zs i y o) → slice_get xs i ≡ Some x → ys ≡ grown xs i x u
-grown_moved xs zs ys ps i o u w r x z q v read parts is e =
-    let same : r ≡ x = read ∙ get_or_from_slice_get xs i x r e in
-    let made : ps ≡ parts_from x o = parts ∙ ap₂ parts_from same (v ∙ sym q) in
-    is x (ap (λ (l : List Spot). slice_get l i) z ∙ e) made ∙ ap₂ (λ (l : List Spot) (t : Outcome). grown l i x t) z q
+-- the same, by the spot that was read
+pub grown_for : (xs ys ps : List Spot) (i : ℕ) (o u : Outcome) (r x : Spot) → o ≡ u → slice_get xs i ≡ Some r → ps ≡ parts_from r u
+    → ((y : Spot) → slice_get xs i ≡ Some y → ps ≡ parts_from y o → ys ≡ grown xs i y o) → slice_get xs i ≡ Some x → ys ≡ grown xs i x u
+grown_for xs ys ps i o u r x q read parts is e =
+    let same : r ≡ x = same_Some r x (sym read ∙ e) in
+    let made : ps ≡ parts_from x o = parts ∙ ap₂ parts_from same (sym q) in
+    is x e made ∙ ap (grown xs i x) q
 
 -- the first version
 pub started : (xs : List Spot) (R : Area) → HasPoint R → length R ≤ 16 → xs ≡ record { path = []; region = R; outcome = None; parts = 0 } ∷ [] → IsCounted xs 0

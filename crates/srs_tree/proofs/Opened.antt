@@ -1,6 +1,7 @@
 -- The parts that come to a tree are cells of it.
 use Rattle.std.proofs.Common.{◌≡◌, ℕ, ◌+◌, List, [], ◌∷◌, ◌++◌, map, length, slice_get, refl, sym, ap, ap₂, subst, ◌∙◌, Some, None}
-use Rattle.std.specs.Prelude.{slice_set}
+use Rattle.std.specs.Prelude.{slice_set, OnOk, IfOk, Ok, Err}
+use Rattle.std.specs.declared.result.Result.{Result}
 use Rattle.srs_num.specs.Points.{LinearForm}
 use Rattle.srs_plane.specs.Regions.{Area}
 use Rattle.srs_path.specs.declared.paths.Side.{Side}
@@ -44,3 +45,10 @@ parts_came xs ys p f i tree at sound same =
     let proved : IsProvedOf at.spot.region f.outcome = subst (λ (R : Area). IsProvedOf R f.outcome) (sym at.region) (proved_of f.region f.w f.outcome sound) in
     parts_are xs i at.spot f.outcome tree at.is at.fresh proved f.outcome refl
     ∙ ap₂ (λ (zs : List Spot) (q : List Side). map (cell_in (snapshot_of zs)) (parts_by q f.outcome)) (sym same) at.at_path
+
+-- the same, where the finding came
+pub parts_ok : {A E : Type 0} (cells : A → List WaitingCell) (xs ys : List Spot) (p : List Side) (f : Found) (i : ℕ) → AreSpots xs → IsOpenAt xs p f.region i → (r : Result A E)
+    → OnOk r ((x : Spot) → slice_get xs i ≡ Some x → ys ≡ grown xs i x f.outcome) → OnOk r (IsSound f.region f.w f.outcome)
+    → IfOk r (λ a. (x : Spot) → slice_get xs i ≡ Some x → cells a ≡ map waiting_of (parts_from x f.outcome)) → IfOk r (λ a. cells a ≡ map (cell_in (snapshot_of ys)) (parts_by p f.outcome))
+parts_ok cells xs ys p f i tree at (Ok a) is sound made = made at.spot at.is ∙ parts_came xs ys p f i tree at sound (is at.spot at.is)
+parts_ok cells xs ys p f i tree at (Err e) is sound made = made

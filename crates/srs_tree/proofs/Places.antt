@@ -1,5 +1,5 @@
 -- Elements of a list by their places, after a write and after an append.
-use Rattle.std.proofs.Common.{◌≡◌, ◌≢◌, ◌⊎◌, inl, inr, ℕ, zero, suc, ◌+◌, List, [], ◌∷◌, ◌++◌, length, map, slice_get, refl, sym, ap, ◌∙◌, arith, Some}
+use Rattle.std.proofs.Common.{◌≡◌, ◌≢◌, ◌⊎◌, inl, inr, ℕ, zero, suc, ◌+◌, ◌<◌, List, [], ◌∷◌, ◌++◌, length, map, slice_get, refl, sym, ap, ◌∙◌, arith, Some}
 use Rattle.std.specs.Prelude.{slice_set}
 use Rattle.std.proofs.lemmas.Option.{none-some, same_Some}
 
@@ -29,6 +29,11 @@ module _ {X : Type 0} where
   get_set_other (y ∷ xs) zero (suc j) v n = refl
   get_set_other (y ∷ xs) (suc i) zero v n = refl
   get_set_other (y ∷ xs) (suc i) (suc j) v n = get_set_other xs i j v (λ e. n (ap suc e))
+
+  pub set_left : (xs ys : List X) (i : ℕ) (v : X) → i < length xs → slice_set (xs ++ ys) i v ≡ slice_set xs i v ++ ys
+  set_left [] ys i v l = absurd (omega (arith, l))
+  set_left (x ∷ xs) ys zero v l = refl
+  set_left (x ∷ xs) ys (suc i) v l = ap (λ (zs : List X). x ∷ zs) (set_left xs ys i v (omega (arith, l)))
 
   -- what is written as it was stays in a map
   pub map_set : {Y : Type 0} (f : X → Y) (xs : List X) (i : ℕ) (x v : X) → slice_get xs i ≡ Some x → f v ≡ f x → map f (slice_set xs i v) ≡ map f xs

@@ -1,5 +1,5 @@
 -- What a version keeps of its tree: one spot for each cell, in the order in which the cells were made.
-use Rattle.std.specs.Prelude.{◌≡◌, ◌≢◌, ℕ, ◌+◌, ◌<◌, ◌≤◌, List, [], ◌∷◌, ◌++◌, AllPairs, length, map, slice_get, slice_set, Some, None}
+use Rattle.std.specs.Prelude.{◌≡◌, ◌≢◌, ℕ, ◌+◌, ◌<◌, ◌≤◌, ◌^◌, List, [], ◌∷◌, ◌++◌, AllPairs, length, map, slice_get, slice_set, Some, None}
 use Rattle.std.specs.declared.option.Option.{Option}
 use Rattle.std.specs.FinMap as finite
 use Rattle.srs_num.specs.Points.{Point, LinearForm}
@@ -81,10 +81,13 @@ parts_from x (Outside cycle) = []
 parts_from x (Cut h) = part_of x Ge h ∷ part_of x Lt h ∷ []
 parts_from x (Left cause) = []
 
+-- the spot x with this outcome, whose parts stand from the place n on
+abbrev pub spot_with : Spot → Outcome → ℕ → Spot
+spot_with x o n = record { path = x.path; region = x.region; outcome = Some o; parts = n }
+
 -- the spots after the outcome came to the spot x at the place i
 abbrev pub grown : List Spot → ℕ → Spot → Outcome → List Spot
-grown xs i x o =
-    slice_set xs i (record { path = x.path; region = x.region; outcome = Some o; parts = length xs }) ++ parts_from x o
+grown xs i x o = slice_set xs i (spot_with x o (length xs)) ++ parts_from x o
 
 -- the spot as a cell that waits
 abbrev pub waiting_of : Spot → WaitingCell
@@ -136,7 +139,7 @@ pub record HasGrown (xs ys : List Spot) (p : List Side) (f : Found) : Type 0 whe
   pub spots : AreSpots ys
   pub snapshot : snapshot_of ys ≡ with_entry (snapshot_of xs) p f.outcome
   pub count : finite.len (entries_of ys) ≡ finite.len (entries_of xs) + 1
-  pub few : finite.len (entries_of xs) < length xs
+  pub few : finite.len (entries_of xs) < 2 ^ 48
 
 -- the spot at the place i holds each point of the region
 abbrev pub HoldsAll : List Spot → ℕ → Area → Type 0

@@ -3,14 +3,14 @@ ghost use Rattle.std.specs.Prelude.{◌≡◌, ◌+◌, ◌<◌, ◌≤◌, leng
 ghost use Rattle.srs_plane.specs.Regions.{IsIn};
 ghost use Rattle.srs_tree.specs.Nodes.{Spot, AreSpots, IsLeafFor, root_of};
 
-use crate::nodes::Node;
+use crate::nodes::{Node, Nodes};
 use srs_num::{Pt, Steps};
 use std::sync::ledger::Ledger;
 
 // The leaf that holds the point, if the root does. It takes at most one step for each half of the root, and one for each
 // cut on the way.
 pub(crate) fn leaf_with<'a, L: Ledger>(
-    nodes: &'a [Node],
+    nodes: &'a Nodes,
     r: &Pt,
     steps: &mut Steps<L>,
 ) -> Option<&'a Node>
@@ -20,7 +20,7 @@ pub(crate) fn leaf_with<'a, L: Ledger>(
     ensures beyond { IfNone result (steps.new ≤ steps.old + length (root_of nodes.now)) }
     ensures on_path { IfSome result (λ y. steps.new ≤ steps.old + length (root_of nodes.now) + length y.now.path) }
 {
-    if nodes[0].cell().region().holds(r, steps) {
+    if nodes.get(0).cell().region().holds(r, steps) {
         Some(descend(nodes, 0, r, steps))
     } else {
         None
@@ -28,14 +28,14 @@ pub(crate) fn leaf_with<'a, L: Ledger>(
 }
 
 // The leaf that holds the point, from the cell at the place `i` down, which holds it. It takes one step for each cut.
-fn descend<'a, L: Ledger>(nodes: &'a [Node], i: usize, r: &Pt, steps: &mut Steps<L>) -> &'a Node
+fn descend<'a, L: Ledger>(nodes: &'a Nodes, i: usize, r: &Pt, steps: &mut Steps<L>) -> &'a Node
     requires spots { AreSpots nodes.now }
     requires there { i < length nodes.now }
     requires holds { (x : Spot) → slice_get nodes.now i ≡ Some x → IsIn x.region r.now }
     ensures leaf { IsLeafFor nodes.now r.now result.now }
     ensures steps { (x : Spot) → slice_get nodes.now i ≡ Some x → steps.new + length x.path ≡ steps.old + length result.now.path }
 {
-    let node = &nodes[i];
+    let node = nodes.get(i);
     // Paths have at most 48 sides, and so the calls end.
     let path = node.path();
     let _ = path.len();

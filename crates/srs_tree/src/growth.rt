@@ -1,5 +1,5 @@
 // How a tree takes an outcome.
-ghost use Rattle.std.specs.Prelude.{◌≡◌, ◌+◌, ◌<◌, ◌≤◌, [], ◌∷◌, ◌++◌, length, map, slice_get, vec_len, vec_capacity, Some, None, IfOk, IfErr, OnOk, OnErr};
+ghost use Rattle.std.specs.Prelude.{◌≡◌, ◌+◌, ◌^◌, ◌<◌, ◌≤◌, [], ◌∷◌, ◌++◌, length, map, slice_get, Some, None, IfOk, IfErr, OnOk, OnErr};
 ghost use Rattle.std.specs.Arc.{arc_value};
 ghost use Rattle.srs_plane.specs.Regions.{Divides};
 ghost use Rattle.srs_path.specs.declared.paths.Side.TheVariants.{Ge as OnGe, Lt as OnLt};
@@ -9,8 +9,9 @@ ghost use Rattle.srs_tree.specs.Nodes.{Spot, AreSpots, MaySettle, IsReadyFor, Is
 ghost use Rattle.srs_tree.specs.Queue.{cell_in, cells_from};
 ghost use Rattle.srs_tree.specs.Rounds.{parts_by};
 
-use crate::nodes::{Node, find, shared};
-use crate::{Added, Pending, TreeErr};
+use crate::nodes::{Node, Nodes, find, shared};
+use crate::waiting::Added;
+use crate::{Pending, TreeErr};
 use srs_cell::{Cell, Parts};
 use srs_num::{Form, NoMemory};
 use srs_path::{Finding, Outcome, Path, Side};
@@ -19,7 +20,7 @@ use std::sync::Arc;
 
 // The place of the open cell at the path, and the finding, if it is of this cell's region.
 pub(crate) fn place_for(
-    nodes: &[Node],
+    nodes: &Nodes,
     path: &Path,
     f: Finding,
 ) -> Result<(usize, Finding), TreeErr>
@@ -32,7 +33,7 @@ pub(crate) fn place_for(
         Ok(i) => i,
         Err(longest) => return Err(TreeErr::NotThere(longest)),
     };
-    let node = &nodes[i];
+    let node = nodes.get(i);
     if let Some(outcome) = node.outcome() {
         return Err(done(outcome, f));
     }
@@ -62,43 +63,51 @@ fn other_cell(cell: &Arc<Cell>, f: Finding) -> TreeErr
     }
 }
 
-// The outcome of the finding comes to the cell at the path, and what came is given. An `Err` leaves the cells as they were.
-pub(crate) fn add_to(
-    nodes: &mut Vec<Node>,
+// The outcome of the finding comes to the cell at the path, which is open and stands at the place `i`, and what came is
+// given. An `Err` is want of memory: the cells stay as they were, and the finding comes back.
+pub(crate) fn enter(
+    nodes: &mut Nodes,
     alloc: Global,
     path: &Path,
+    i: usize,
     f: Finding,
-) -> Result<Added, TreeErr>
-    requires spots { AreSpots nodes.old.items }
+) -> Result<Added, Finding>
+    requires spots { AreSpots nodes.old }
+    requires there { IsOpenAt nodes.old path.now f.region i }
     requires short { IsShortCut path.now f.outcome }
-    ensures grown { OnOk result (HasGrown nodes.old.items nodes.new.items path.now f) }
-    ensures parts { IfOk result (λ added. cells_from added.parts ≡ map (cell_in (snapshot_of nodes.new.items)) (parts_by path.now f.outcome)) }
+    ensures grown { OnOk result (HasGrown nodes.old nodes.new path.now f) }
+    ensures parts {
+        IfOk result (λ added.
+        cells_from added.parts ≡ map (cell_in (snapshot_of nodes.new)) (parts_by path.now f.outcome))
+    }
     ensures outcome { IfOk result (λ added. arc_value added.outcome ≡ f.outcome) }
-    ensures refused { IfErr result (λ e. IsTreeErr (snapshot_of nodes.old.items) path.now f e) }
-    ensures same { OnErr result (nodes.new.items ≡ nodes.old.items) }
+    ensures err { IfErr result (λ g. g ≡ f) }
+    ensures same { OnErr result (nodes.new ≡ nodes.old) }
 {
     // A path has at most 48 sides, so a cell has at most 64 halves.
     let _ = path.len();
-    let (i, f) = place_for(nodes, path, f)?;
-    match enter(nodes, alloc, i, f) {
-        Ok(added) => Ok(added),
-        Err(f) => Err(TreeErr::NoMemory(f)),
-    }
+    enter_at(nodes, alloc, i, f)
 }
 
-// The outcome of the finding comes to the cell at the place `i`, and what came is given. An `Err` is want of memory: the
-// cells stay as they were, and the finding comes back.
-fn enter(nodes: &mut Vec<Node>, alloc: Global, i: usize, f: Finding) -> Result<Added, Finding>
-    requires there { i < vec_len nodes.old }
-    requires may { (x : Spot) → slice_get nodes.old.items i ≡ Some x → IsReadyFor x f }
-    ensures ok { OnOk result ((x : Spot) → slice_get nodes.old.items i ≡ Some x → nodes.new.items ≡ grown nodes.old.items i x f.outcome) }
+// The same, by the cell at the place `i`.
+fn enter_at(nodes: &mut Nodes, alloc: Global, i: usize, f: Finding) -> Result<Added, Finding>
+    requires there { i < length nodes.old }
+    requires may { (x : Spot) → slice_get nodes.old i ≡ Some x → IsReadyFor x f }
+    ensures grown {
+        OnOk result ((x : Spot) → slice_get nodes.old i ≡ Some x
+        → nodes.new ≡ grown nodes.old i x f.outcome)
+    }
+    ensures few { OnOk result (length nodes.old ≤ 2 ^ 48) }
     ensures sound { OnOk result (IsSound f.region f.w f.outcome) }
-    ensures parts { IfOk result (λ added. (x : Spot) → slice_get nodes.old.items i ≡ Some x → cells_from added.parts ≡ map waiting_of (parts_from x f.outcome)) }
+    ensures parts {
+        IfOk result (λ added. (x : Spot) → slice_get nodes.old i ≡ Some x
+        → cells_from added.parts ≡ map waiting_of (parts_from x f.outcome))
+    }
     ensures outcome { IfOk result (λ added. arc_value added.outcome ≡ f.outcome) }
     ensures err { IfErr result (λ g. g ≡ f) }
-    ensures same { OnErr result (nodes.new.items ≡ nodes.old.items) }
+    ensures same { OnErr result (nodes.new ≡ nodes.old) }
 {
-    let parts = match parts_of(alloc, &nodes[i], f.outcome()) {
+    let parts = match parts_of(alloc, nodes.get(i), f.outcome()) {
         Ok(parts) => parts,
         Err(NoMemory) => return Err(f),
     };
@@ -106,45 +115,64 @@ fn enter(nodes: &mut Vec<Node>, alloc: Global, i: usize, f: Finding) -> Result<A
         Ok(open) => open,
         Err(NoMemory) => return Err(f),
     };
-    if nodes.reserve(2).is_err() {
-        return Err(f);
-    }
-    match f.shared(alloc) {
-        Ok((outcome, other)) => {
-            settle(nodes, i, outcome, parts);
-            Ok(Added {
-                outcome: other,
-                parts: open,
-            })
-        }
-        Err(f) => Err(f),
+    let (outcome, f) = f.share_outcome(alloc)?;
+    let (other, f) = f.share_outcome(alloc)?;
+    match settle(nodes, alloc, i, outcome, parts) {
+        Ok(()) => Ok(Added {
+            outcome: other,
+            parts: open,
+        }),
+        Err(NoMemory) => Err(f),
     }
 }
 
-// The outcome and its parts are written, for which there is room.
-fn settle(nodes: &mut Vec<Node>, i: usize, outcome: Arc<Outcome>, parts: Option<(Node, Node)>)
-    requires there { i < vec_len nodes.old }
-    requires room { vec_len nodes.old + 2 ≤ vec_capacity nodes.old }
-    ensures { (x : Spot) → slice_get nodes.old.items i ≡ Some x → spots_from parts ≡ parts_from x (arc_value outcome) → nodes.new.items ≡ grown nodes.old.items i x (arc_value outcome) }
+// The outcome and its parts are written. An `Err` is want of memory, and leaves the cells as they were.
+fn settle(
+    nodes: &mut Nodes,
+    alloc: Global,
+    i: usize,
+    outcome: Arc<Outcome>,
+    parts: Option<(Node, Node)>,
+) -> Result<(), NoMemory>
+    requires { i < length nodes.old }
+    ensures ok {
+        OnOk result ((x : Spot) → slice_get nodes.old i ≡ Some x
+        → spots_from parts ≡ parts_from x (arc_value outcome)
+        → nodes.new ≡ grown nodes.old i x (arc_value outcome))
+    }
+    ensures err { OnErr result (nodes.new ≡ nodes.old) }
 {
     let place = nodes.len();
-    nodes[i].settle(outcome, place);
-    if let Some((ge, lt)) = parts {
-        push(nodes, ge);
-        push(nodes, lt);
+    let node = nodes.get(i).settled(outcome, place)?;
+    append(nodes, alloc, parts)?;
+    match nodes.set(alloc, i, node) {
+        Ok(()) => Ok(()),
+        Err(NoMemory) => {
+            nodes.truncate(place);
+            Err(NoMemory)
+        }
     }
 }
 
-// One cell more, for which there is room.
-fn push(nodes: &mut Vec<Node>, node: Node)
-    requires { vec_len nodes.old < vec_capacity nodes.old }
-    ensures items { nodes.new.items ≡ nodes.old.items ++ node ∷ [] }
-    ensures len { vec_len nodes.new ≡ vec_len nodes.old + 1 }
-    ensures capacity { vec_capacity nodes.old ≤ vec_capacity nodes.new }
+// The parts come behind the last cell. An `Err` is want of memory, and leaves the cells as they were.
+fn append(
+    nodes: &mut Nodes,
+    alloc: Global,
+    parts: Option<(Node, Node)>,
+) -> Result<(), NoMemory>
+    ensures ok { OnOk result (nodes.new ≡ nodes.old ++ spots_from parts) }
+    ensures err { OnErr result (nodes.new ≡ nodes.old) }
 {
-    if nodes.push(node).is_err() {
-        unreachable!()
+    let Some((ge, lt)) = parts else {
+        return Ok(());
+    };
+    let place = nodes.len();
+    nodes.push(alloc, ge)?;
+    if nodes.push(alloc, lt).is_err() {
+        nodes.truncate(place);
+        return Err(NoMemory);
     }
+    Ok(())
 }
 
 // The parts that the outcome makes of the cell: two for a cut, else none.

@@ -2,6 +2,7 @@
 #![tactic(auto)]
 
 mod answers;
+mod builders;
 mod descents;
 mod growth;
 mod journals;
@@ -17,11 +18,12 @@ mod waiting;
 mod walks;
 
 pub use answers::{Answer, Met, Reply};
+pub use builders::TreeBuilder;
 pub use journals::Journal;
 pub use laws::{histories, one_answer, whole_trees};
 pub use queries::{Askable, Queries, Query, Said};
 pub use refusals::TreeErr;
 pub use sessions::{Ascending, Few, Run, Script, Segment, Session, Transcript, Transcripts};
 pub use sharing::shared;
-pub use versions::Version;
-pub use waiting::{Added, Pending, PendingList};
+pub use versions::{Grown, Version};
+pub use waiting::{Pending, PendingList};

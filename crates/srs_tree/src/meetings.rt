@@ -7,7 +7,7 @@ ghost use Rattle.srs_tree.specs.Answers.{IsMet};
 ghost use Rattle.srs_tree.specs.Clips.{IsClip};
 
 use crate::Met;
-use crate::nodes::Node;
+use crate::nodes::Nodes;
 use srs_cell::{Cell, Parts};
 use srs_num::NoMemory;
 use srs_path::Path;
@@ -54,12 +54,12 @@ impl Clip {
 }
 
 // The answers that the cell meets, for a cell of at most 16 halves. An `Err` is want of memory.
-pub(crate) fn met_by(alloc: Global, nodes: &[Node], q: &Cell) -> Result<Met, NoMemory>
+pub(crate) fn met_by(alloc: Global, nodes: &Nodes, q: &Cell) -> Result<Met, NoMemory>
     requires spots { AreSpots nodes.now }
     requires few { length q.now ≤ 16 }
     ensures { IfOk result (λ met. IsMet (root_of nodes.now) (spots_tree nodes.now) q.now met) }
 {
-    let clip = within(alloc, q, nodes[0].cell().region())?;
+    let clip = within(alloc, q, nodes.get(0).cell().region())?;
     match &clip.inside {
         Some(cell) => Ok(met_below(alloc, nodes, 0, cell)?.with_beyond(clip.beyond)),
         None => Ok(Met::none().with_beyond(clip.beyond)),
@@ -136,14 +136,14 @@ fn clipped_open(alloc: Global, cell: Cell, half: &Half) -> Result<Clip, NoMemory
 }
 
 // The answers that the cell meets, which is within the region of the cell at the place `i`. An `Err` is want of memory.
-fn met_below(alloc: Global, nodes: &[Node], i: usize, cell: &Cell) -> Result<Met, NoMemory>
+fn met_below(alloc: Global, nodes: &Nodes, i: usize, cell: &Cell) -> Result<Met, NoMemory>
     requires spots { AreSpots nodes.now }
     requires there { i < length nodes.now }
     requires holds { HoldsAll nodes.now i cell.now }
     requires few { (x : Spot) → slice_get nodes.now i ≡ Some x → length cell.now ≤ 32 + length x.path }
     ensures { IfOk result (λ met. IsMet (root_of nodes.now) (spots_tree nodes.now) cell.now met) }
 {
-    let node = &nodes[i];
+    let node = nodes.get(i);
     let Some((form, ge)) = node.cut() else {
         // A cell has a point.
         let _ = cell.region();
@@ -163,9 +163,9 @@ fn met_below(alloc: Global, nodes: &[Node], i: usize, cell: &Cell) -> Result<Met
 }
 
 // The path of the cell at the place `i`.
-fn path_at(nodes: &[Node], i: usize) -> Path
+fn path_at(nodes: &Nodes, i: usize) -> Path
     requires { i < length nodes.now }
     ensures { (x : Spot) → slice_get nodes.now i ≡ Some x → result ≡ x.path }
 {
-    nodes[i].path()
+    nodes.get(i).path()
 }

@@ -2,16 +2,16 @@
 ghost use Rattle.std.specs.Prelude.{◌≡◌, length, ◌+◌, ◌<◌, ◌^◌, Some, None, IfOk, IfErr, IfSome, IfNone, MatchOption, OnErr};
 ghost use Rattle.srs_num.specs.Points.{LinearForm};
 ghost use Rattle.srs_path.specs.declared.outcomes.Outcome.TheVariants.{Cut as IsCut};
-ghost use Rattle.srs_tree.specs.Nodes.{Spot, AreSpots, IsPlaceOf, part_place, spots_tree, waiting_of, IsPartWith};
+ghost use Rattle.srs_tree.specs.Nodes.{Spot, AreSpots, IsPlaceOf, part_place, spots_tree, waiting_of, spot_with, IsPartWith};
 ghost use Rattle.srs_tree.specs.Answers.{reply_of, reply_by};
 ghost use Rattle.srs_tree.specs.Growth.{IsLongestCell};
 ghost use Rattle.srs_tree.specs.Tree.{IsCellOf};
 
 use crate::{Answer, Pending};
+use srs_blocks::{BlockList, Share};
 use srs_cell::Cell;
 use srs_num::{Form, NoMemory, Pt, Steps};
 use srs_path::{Outcome, Path, Side};
-use std::alloc::Global;
 use std::marker::Model;
 use std::sync::Arc;
 use std::sync::ledger::Ledger;
@@ -66,12 +66,16 @@ impl Node {
         self.outcome.as_ref()
     }
 
-    // The outcome comes to the cell; its parts, if it has any, stand from the place `parts` on.
-    pub(crate) fn settle(&mut self, outcome: Arc<Outcome>, parts: usize)
-        ensures { self.new ≡ record { path = self.old.path; region = self.old.region; outcome = Some outcome.value; parts = parts } }
+    // The cell with this outcome; its parts, if it has any, stand from the place `parts` on. An `Err` is want of memory.
+    pub(crate) fn settled(&self, outcome: Arc<Outcome>, parts: usize) -> Result<Node, NoMemory>
+        ensures { IfOk result (λ node. node ≡ spot_with self.now outcome.value parts) }
     {
-        self.outcome = Some(outcome);
-        self.parts = parts;
+        Ok(Node {
+            path: self.path,
+            cell: shared(&self.cell)?,
+            outcome: Some(outcome),
+            parts,
+        })
     }
 
     // The place of the part on the side `s` of the cut, if there is one.
@@ -134,11 +138,11 @@ impl Node {
             cell: shared(&self.cell)?,
         })
     }
+}
 
+impl Share for Node {
     // The same cell, shared.
-    fn share(&self) -> Result<Node, NoMemory>
-        ensures { IfOk result (λ node. node ≡ self.now) }
-    {
+    fn share(&self) -> Result<Node, NoMemory> {
         Ok(Node {
             path: self.path,
             cell: shared(&self.cell)?,
@@ -151,6 +155,9 @@ impl Node {
     }
 }
 
+// The cells of a tree in the order in which they were made, seen as the list of them.
+pub(crate) type Nodes = BlockList<Node>;
+
 // One owner more.
 pub(crate) fn shared<T>(value: &Arc<T>) -> Result<Arc<T>, NoMemory>
     ensures { IfOk result (λ copy. copy.value ≡ value.now.value) }
@@ -162,7 +169,7 @@ pub(crate) fn shared<T>(value: &Arc<T>) -> Result<Arc<T>, NoMemory>
 }
 
 // The place of the cell at the path, or else the longest beginning of the path that is a cell.
-pub(crate) fn find(nodes: &[Node], path: &Path) -> Result<usize, Path>
+pub(crate) fn find(nodes: &Nodes, path: &Path) -> Result<usize, Path>
     requires { AreSpots nodes.now }
     ensures found { IfOk result (λ i. IsPlaceOf nodes.now path.now i) }
     ensures within { IfOk result (λ i. i < length nodes.now) }
@@ -171,7 +178,7 @@ pub(crate) fn find(nodes: &[Node], path: &Path) -> Result<usize, Path>
 {
     let mut at = 0;
     for i in 0..path.len() {
-        let node = &nodes[at];
+        let node = nodes.get(at);
         match node.part(path.side(i)) {
             Some(place) => at = place,
             None => return Err(node.path()),
@@ -181,28 +188,15 @@ pub(crate) fn find(nodes: &[Node], path: &Path) -> Result<usize, Path>
 }
 
 // The outcome at the path, if it has one.
-pub(crate) fn outcome_at<'a>(nodes: &'a [Node], path: &Path) -> Option<&'a Outcome>
+pub(crate) fn outcome_at<'a>(nodes: &'a Nodes, path: &Path) -> Option<&'a Outcome>
     requires { AreSpots nodes.now }
     ensures { MatchOption result (spots_tree nodes.now path.now ≡ None) (λ o. spots_tree nodes.now path.now ≡ Some o.now) }
 {
     let Ok(i) = find(nodes, path) else {
         return None;
     };
-    match nodes[i].outcome() {
+    match nodes.get(i).outcome() {
         Some(outcome) => Some(outcome),
         None => None,
     }
-}
-
-// The same cells, shared.
-pub(crate) fn copied(alloc: Global, nodes: &[Node]) -> Result<Vec<Node>, NoMemory>
-    ensures { IfOk result (λ copy. copy.items ≡ nodes.now) }
-{
-    let mut copy = Vec::new(alloc);
-    for node in nodes {
-        if copy.push(node.share()?).is_err() {
-            return Err(NoMemory);
-        }
-    }
-    Ok(copy)
 }

@@ -12,11 +12,12 @@ ghost use Rattle.srs_tree.specs.Queue.{cell_in, cells_from};
 ghost use Rattle.srs_tree.specs.Growth.{IsVersion, IsShortCut, MayEnter, IsTreeErr};
 
 use crate::descents::leaf_with;
-use crate::growth::{add_to, place_for};
+use crate::growth::{enter, place_for};
 use crate::meetings::met_by;
-use crate::nodes::{Node, copied, outcome_at};
+use crate::nodes::{Node, Nodes, outcome_at};
+use crate::waiting::Added;
 use crate::walks::walk;
-use crate::{Added, Answer, Journal, Met, Pending, TreeErr};
+use crate::{Answer, Journal, Met, Pending, TreeErr};
 use srs_cell::Cell;
 use srs_num::{NoMemory, Pt, Steps};
 use srs_path::{Finding, Outcome, Path};
@@ -29,8 +30,17 @@ use std::sync::ledger::Ledger;
 /// the root, or its parent has a cut; and each outcome that is inside, outside or a cut is sound on its cell.
 #[derive(Drop)]
 pub struct Version {
-    nodes: Vec<Node>,
+    nodes: Nodes,
     count: u64,
+}
+
+/// A version with one entry more, and what came with the entry: an owner of its outcome, and the two cells that a cut
+/// makes, Ge first.
+#[derive(Drop)]
+pub struct Grown {
+    pub version: Version,
+    pub outcome: Arc<Outcome>,
+    pub parts: Option<(Pending, Pending)>,
 }
 
 impl Model for Version {
@@ -42,9 +52,9 @@ impl Model for Version {
 
     ghost use Rattle.srs_tree.specs.Nodes.{snapshot_of, IsCounted};
 
-    ghost view = { λ v. snapshot_of v.nodes.items };
+    ghost view = { λ v. snapshot_of v.nodes };
 
-    ghost invariant = { λ v. IsCounted v.nodes.items v.count };
+    ghost invariant = { λ v. IsCounted v.nodes v.count };
 }
 
 impl Version {
@@ -55,21 +65,17 @@ impl Version {
     {
         // A cell has a point.
         let _ = cell.region();
-        let Ok(cell) = Arc::new(alloc, cell) else {
-            return Err(NoMemory);
-        };
-        let mut nodes = Vec::new(alloc);
-        match nodes.push(Node::open(Path::root(), cell)) {
-            Ok(()) => Ok(Version { nodes, count: 0 }),
-            Err(_) => Err(NoMemory),
-        }
+        let cell = Arc::new(alloc, cell)?;
+        let mut nodes = Nodes::new(alloc);
+        nodes.push(alloc, Node::open(Path::root(), cell))?;
+        Ok(Version { nodes, count: 0 })
     }
 
     /// The root cell, which has no event where the version has none.
     pub fn root(&self) -> Result<Pending, NoMemory>
         ensures { IfOk result (λ root. root ≡ record { path = []; region = self.now.region }) }
     {
-        self.nodes[0].waiting()
+        self.nodes.get(0).waiting()
     }
 
     /// How many outcomes it has.
@@ -120,12 +126,12 @@ impl Version {
         met_by(alloc, &self.nodes, q)
     }
 
-    /// An equal version.
+    /// An equal version, which shares all cells.
     pub fn share(&self, alloc: Global) -> Result<Version, NoMemory>
         ensures { IfOk result (λ v. v ≡ self.now) }
     {
         Ok(Version {
-            nodes: copied(alloc, &self.nodes)?,
+            nodes: self.nodes.share(alloc)?,
             count: self.count,
         })
     }
@@ -139,57 +145,68 @@ impl Version {
         Ok(events)
     }
 
-    /// The outcome of the finding is entered at the path; a cut's path is shorter than 48. It gives an owner of the outcome,
-    /// and the two cells that a cut makes, Ge first. All memory is taken before anything changes: an `Err` leaves the version
-    /// as it was.
-    pub fn enter(&mut self, alloc: Global, path: Path, f: Finding) -> Result<Added, TreeErr>
+    // The outcome of the finding is entered at the path, and what came is given. All memory is taken before anything changes:
+    // an `Err` leaves the version as it was.
+    pub(crate) fn enter(&mut self, alloc: Global, path: Path, f: Finding) -> Result<Added, TreeErr>
         requires { IsShortCut path f.outcome }
         ensures may { OnOk result (MayEnter self.old path f) }
         ensures entered { OnOk result (self.new ≡ with_entry self.old path f.outcome) }
-        ensures outcome { IfOk result (λ added. arc_value added.outcome ≡ f.outcome) }
-        ensures parts { IfOk result (λ added. cells_from added.parts ≡ map_list (cell_in self.new) (parts_by path f.outcome)) }
+        ensures parts {
+            IfOk result (λ added.
+            cells_from added.parts ≡ map_list (cell_in self.new) (parts_by path f.outcome))
+        }
         ensures refused { IfErr result (λ e. IsTreeErr self.old path f e) }
         ensures same { OnErr result (self.new ≡ self.old) }
     {
-        let added = add_to(&mut self.nodes, alloc, &path, f)?;
-        self.count += 1;
-        Ok(added)
+        let (i, f) = place_for(&self.nodes, &path, f)?;
+        match enter(&mut self.nodes, alloc, &path, i, f) {
+            Ok(added) => {
+                self.count += 1;
+                Ok(added)
+            }
+            Err(f) => Err(TreeErr::NoMemory(f)),
+        }
     }
 
-    /// As `enter`, but it gives the two cells alone.
-    pub fn add(
-        &mut self,
-        alloc: Global,
-        path: Path,
-        f: Finding,
-    ) -> Result<Option<(Pending, Pending)>, TreeErr>
+    /// The version with the outcome of the finding entered at the path; a cut's path is shorter than 48. With it come an owner
+    /// of the outcome, and the two cells that a cut makes, Ge first. This version stays as it is. The refusals but want of
+    /// memory come before anything of the new version is made.
+    pub fn grown(&self, alloc: Global, path: Path, f: Finding) -> Result<Grown, TreeErr>
         requires { IsShortCut path f.outcome }
-        ensures may { OnOk result (MayEnter self.old path f) }
-        ensures entered { OnOk result (self.new ≡ with_entry self.old path f.outcome) }
-        ensures parts { IfOk result (λ parts. cells_from parts ≡ map_list (cell_in self.new) (parts_by path f.outcome)) }
-        ensures refused { IfErr result (λ e. IsTreeErr self.old path f e) }
-        ensures same { OnErr result (self.new ≡ self.old) }
+        ensures may { OnOk result (MayEnter self.now path f) }
+        ensures entered { IfOk result (λ g. g.version ≡ with_entry self.now path f.outcome) }
+        ensures outcome { IfOk result (λ g. arc_value g.outcome ≡ f.outcome) }
+        ensures parts {
+            IfOk result (λ g.
+            cells_from g.parts ≡ map_list (cell_in g.version) (parts_by path f.outcome))
+        }
+        ensures refused { IfErr result (λ e. IsTreeErr self.now path f e) }
     {
-        Ok(self.enter(alloc, path, f)?.parts)
+        let (i, f) = place_for(&self.nodes, &path, f)?;
+        let mut nodes = match self.nodes.share(alloc) {
+            Ok(nodes) => nodes,
+            Err(NoMemory) => return Err(TreeErr::NoMemory(f)),
+        };
+        match enter(&mut nodes, alloc, &path, i, f) {
+            Ok(Added { outcome, parts }) => Ok(Grown {
+                version: Version {
+                    nodes,
+                    count: self.count + 1,
+                },
+                outcome,
+                parts,
+            }),
+            Err(f) => Err(TreeErr::NoMemory(f)),
+        }
     }
 
-    /// The version with the outcome of the finding entered at the path; a cut's path is shorter than 48. The refusals but
-    /// want of memory come before anything of the new version is made.
+    /// As `grown`, but it gives the version alone.
     pub fn with(&self, alloc: Global, path: Path, f: Finding) -> Result<Version, TreeErr>
         requires { IsShortCut path f.outcome }
         ensures may { OnOk result (MayEnter self.now path f) }
         ensures entered { IfOk result (λ v. v ≡ with_entry self.now path f.outcome) }
         ensures refused { IfErr result (λ e. IsTreeErr self.now path f e) }
     {
-        let (_, f) = place_for(&self.nodes, &path, f)?;
-        let mut nodes = match copied(alloc, &self.nodes) {
-            Ok(nodes) => nodes,
-            Err(NoMemory) => return Err(TreeErr::NoMemory(f)),
-        };
-        let _added = add_to(&mut nodes, alloc, &path, f)?;
-        Ok(Version {
-            nodes,
-            count: self.count + 1,
-        })
+        Ok(self.grown(alloc, path, f)?.version)
     }
 }

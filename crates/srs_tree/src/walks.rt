@@ -5,18 +5,18 @@ ghost use Rattle.srs_tree.specs.Nodes.{Spot, AreSpots, entries_of};
 ghost use Rattle.srs_tree.specs.Preorder.{event_of, preorder_below};
 
 use crate::Journal;
-use crate::nodes::{Node, shared};
+use crate::nodes::{Nodes, shared};
 use srs_num::NoMemory;
 use srs_path::{Event, Outcome, Path, Side};
 use std::sync::Arc;
 
 // Appends the outcome of the cell at the place `i`, and then those below it. An `Err` is want of memory.
-pub(crate) fn walk(nodes: &[Node], i: usize, journal: &mut Journal) -> Result<(), NoMemory>
+pub(crate) fn walk(nodes: &Nodes, i: usize, journal: &mut Journal) -> Result<(), NoMemory>
     requires spots { AreSpots nodes.now }
     requires there { i < length nodes.now }
     ensures { OnOk result ((x : Spot) → slice_get nodes.now i ≡ Some x → journal.new ≡ journal.old ++ preorder_below (entries_of nodes.now) x.path) }
 {
-    let node = &nodes[i];
+    let node = nodes.get(i);
     let Some(outcome) = node.outcome() else {
         return Ok(());
     };

@@ -7,6 +7,7 @@ use Rattle.srs_plane.proofs.Ring_of_vertices.{few_halves}
 use Rattle.srs_tree.specs.Growth.{IsProvedOf}
 use Rattle.srs_tree.specs.Queue.{WaitingCell, cells_from}
 use Rattle.srs_tree.specs.Snapshots.{Snapshot}
+use Rattle.srs_check.specs.Builds.{IsBuilt}
 use Rattle.srs_check.specs.Proving.{Proves}
 use Rattle.srs_check.specs.Faults.{Fails}
 use Rattle.srs_check.proofs.Answering.{same_get}
@@ -23,9 +24,9 @@ start-requires c =
 
 pub loop-i-init : goal.loop-i-init
 loop-i-init c =
-    let v = c.in_ok-version.ensures ∙ ap (λ (R : Area). let w : Snapshot = record { region = R; entries = finite.empty } in w) c.in_ok-root_of.ensures in
+    let v = c.in_ok-tree.ensures ∙ ap (λ (R : Area). let w : Snapshot = record { region = R; entries = finite.empty } in w) c.in_ok-root_of.ensures in
     let region = ap (λ (w : WaitingCell). w.region) c.in_ok-root.ensures ∙ ap (λ (w : Snapshot). w.region) v in
-    subst (λ (xs : List WaitingCell). GrownTo c.args.c.now 0 xs c.in_ok-version.version) (sym c.of-waiting.ensures) (grown_first c.args.c.now c.in_ok-root.field-0 c.in_ok-version.version c.node_count-nodes.ensures.certificate region v)
+    subst (λ (xs : List WaitingCell). GrownTo c.args.c.now 0 xs c.in_ok-tree.tree) (sym c.of-waiting.ensures) (grown_first c.args.c.now c.in_ok-root.field-0 c.in_ok-tree.tree c.node_count-nodes.ensures.certificate region v)
 
 pub unreachable-requires : goal.unreachable-requires
 unreachable-requires c =
@@ -33,7 +34,7 @@ unreachable-requires c =
 
 pub returns-in-Err : goal.returns-in-Err
 returns-in-Err c =
-    let s : GrownTo c.args.c.now c.loop-i.i (c.in-Some.next ∷ c.take.new.self) c.loop-i.version = subst (λ (xs : List WaitingCell). GrownTo c.args.c.now c.loop-i.i xs c.loop-i.version) c.in-Some.ensures c.loop-i.invariant in
+    let s : GrownTo c.args.c.now c.loop-i.i (c.in-Some.next ∷ c.take.new.self) c.loop-i.tree = subst (λ (xs : List WaitingCell). GrownTo c.args.c.now c.loop-i.i xs c.loop-i.tree) c.in-Some.ensures c.loop-i.invariant in
     let at : slice_get c.args.c.now.events c.loop-i.i ≡ Some c.get-event.result.now = same_get c.events.result.now c.args.c.now.events c.loop-i.i c.get-event.result.now c.events.ensures.events c.get-event.ensures in
     let region : c.deref.result.now ≡ c.in-Some.next.region = c.deref.ensures ∙ ap (λ (w : WaitingCell). w.region) c.next.view_is in
     let wrong = subst (λ (R : Area). Fails R c.args.c.now.limits c.args.c.now.events (length c.get-event.result.now.path) c.get-event.result.now.outcome c.in-Err.fault) region c.in-Err.ensures.err in
@@ -42,16 +43,16 @@ returns-in-Err c =
 
 pub enter-requires-clause-is_open : goal.enter-requires-clause-is_open
 enter-requires-clause-is_open c =
-    let s : GrownTo c.args.c.now c.loop-i.i (c.in-Some.next ∷ c.take.new.self) c.loop-i.version = subst (λ (xs : List WaitingCell). GrownTo c.args.c.now c.loop-i.i xs c.loop-i.version) c.in-Some.ensures c.loop-i.invariant in
+    let s : GrownTo c.args.c.now c.loop-i.i (c.in-Some.next ∷ c.take.new.self) c.loop-i.tree = subst (λ (xs : List WaitingCell). GrownTo c.args.c.now c.loop-i.i xs c.loop-i.tree) c.in-Some.ensures c.loop-i.invariant in
     let at : slice_get c.args.c.now.events c.loop-i.i ≡ Some c.get-event.result.now = same_get c.events.result.now c.args.c.now.events c.loop-i.i c.get-event.result.now c.events.ensures.events c.get-event.ensures in
-    cell_is_open c.args.c.now c.node_count-nodes.ensures.certificate c.loop-i.i c.in-Some.next c.take.new.self c.loop-i.version s c.get-event.result.now at
+    cell_is_open c.args.c.now c.node_count-nodes.ensures.certificate c.loop-i.i c.in-Some.next c.take.new.self c.loop-i.tree s c.get-event.result.now at
 
 pub enter-requires-clause-same : goal.enter-requires-clause-same
 enter-requires-clause-same c =
-    let s : GrownTo c.args.c.now c.loop-i.i (c.in-Some.next ∷ c.take.new.self) c.loop-i.version = subst (λ (xs : List WaitingCell). GrownTo c.args.c.now c.loop-i.i xs c.loop-i.version) c.in-Some.ensures c.loop-i.invariant in
+    let s : GrownTo c.args.c.now c.loop-i.i (c.in-Some.next ∷ c.take.new.self) c.loop-i.tree = subst (λ (xs : List WaitingCell). GrownTo c.args.c.now c.loop-i.i xs c.loop-i.tree) c.in-Some.ensures c.loop-i.invariant in
     let at : slice_get c.args.c.now.events c.loop-i.i ≡ Some c.get-event.result.now = same_get c.events.result.now c.args.c.now.events c.loop-i.i c.get-event.result.now c.events.ensures.events c.get-event.ensures in
     let region : c.deref-in-loop-i.result.now ≡ c.in-Some.next.region = c.deref-in-loop-i.ensures ∙ ap (λ (w : WaitingCell). w.region) c.next.view_is in
-    region ∙ same_region c.args.c.now c.node_count-nodes.ensures.certificate c.loop-i.i c.in-Some.next c.take.new.self c.loop-i.version s c.get-event.result.now at
+    region ∙ same_region c.args.c.now c.node_count-nodes.ensures.certificate c.loop-i.i c.in-Some.next c.take.new.self c.loop-i.tree s c.get-event.result.now at
 
 pub enter-requires-clause-short : goal.enter-requires-clause-short
 enter-requires-clause-short c =
@@ -60,27 +61,27 @@ enter-requires-clause-short c =
 
 pub loop-i-preserved : goal.loop-i-preserved
 loop-i-preserved c =
-    let s : GrownTo c.args.c.now c.loop-i.i (c.in-Some.next ∷ c.take.new.self) c.loop-i.version = subst (λ (xs : List WaitingCell). GrownTo c.args.c.now c.loop-i.i xs c.loop-i.version) c.in-Some.ensures c.loop-i.invariant in
+    let s : GrownTo c.args.c.now c.loop-i.i (c.in-Some.next ∷ c.take.new.self) c.loop-i.tree = subst (λ (xs : List WaitingCell). GrownTo c.args.c.now c.loop-i.i xs c.loop-i.tree) c.in-Some.ensures c.loop-i.invariant in
     let at : slice_get c.args.c.now.events c.loop-i.i ≡ Some c.get-event.result.now = same_get c.events.result.now c.args.c.now.events c.loop-i.i c.get-event.result.now c.events.ensures.events c.get-event.ensures in
     let region : c.deref.result.now ≡ c.in-Some.next.region = c.deref.ensures ∙ ap (λ (w : WaitingCell). w.region) c.next.view_is in
     let proves = subst (λ (R : Area). Proves R c.args.c.now.limits c.args.c.now.events (length c.get-event.result.now.path) c.get-event.result.now.outcome) region c.in_default-check_node.ensures.ok in
     let sound = subst (λ (R : Area). IsProvedOf R c.get-event.result.now.outcome) region c.in_default-check_node.ensures.sound in
-    let grown : GrownTo c.args.c.now (c.loop-i.i + 1) (cells_from c.in_ok-ge.field-0 ++ c.take.new.self) c.enter.new.version
-    = grown_next c.args.c.now c.node_count-nodes.ensures.certificate c.loop-i.i c.in-Some.next c.take.new.self c.loop-i.version s c.get-event.result.now at proves sound
-    c.enter.new.version c.in_ok-ge.ensures.entered (cells_from c.in_ok-ge.field-0) c.in_ok-ge.ensures.parts in
+    let grown : GrownTo c.args.c.now (c.loop-i.i + 1) (cells_from c.in_ok-ge.field-0 ++ c.take.new.self) c.enter.new.tree
+    = grown_next c.args.c.now c.node_count-nodes.ensures.certificate c.loop-i.i c.in-Some.next c.take.new.self c.loop-i.tree s c.get-event.result.now at proves sound
+    c.enter.new.tree c.in_ok-ge.ensures.entered (cells_from c.in_ok-ge.field-0) c.in_ok-ge.ensures.parts in
     elim c.match-branch-5.branch [
       | in-Some-2+in_ok-divide w ↦
-          subst (λ (xs : List WaitingCell). GrownTo c.args.c.now (c.loop-i.i + 1) xs c.enter.new.version)
+          subst (λ (xs : List WaitingCell). GrownTo c.args.c.now (c.loop-i.i + 1) xs c.enter.new.tree)
           (ap (λ (o : Option (WaitingCell × WaitingCell)). cells_from o ++ c.take.new.self) w.in-Some-2.is ∙ sym (w.waiting-is ∙ w.in_ok-divide.ensures)) grown
       | in_default-2 w ↦
-          subst (λ (xs : List WaitingCell). GrownTo c.args.c.now (c.loop-i.i + 1) xs c.enter.new.version)
+          subst (λ (xs : List WaitingCell). GrownTo c.args.c.now (c.loop-i.i + 1) xs c.enter.new.tree)
           (ap (λ (o : Option (WaitingCell × WaitingCell)). cells_from o ++ c.take.new.self) w.in_default-2.is ∙ sym w.waiting-is) grown
     ]
 
 pub returns : goal.returns
 returns c =
     let walk = c.loop-i.invariant.walk in (
-      grown_last c.args.c.now c.loop-i.i c.loop-i.waiting c.loop-i.version c.loop-i.invariant (omega arith),
+      subst (IsBuilt c.args.c.now) (sym c.finish.ensures) (grown_last c.args.c.now c.loop-i.i c.loop-i.waiting c.loop-i.tree c.loop-i.invariant (omega arith)),
       (walk_proves c.args.c.now c.loop-i.i (regions_of c.loop-i.waiting) walk (omega arith), c.count_nodes.ensures),
       walk_certifies c.args.c.now c.loop-i.i (regions_of c.loop-i.waiting) walk (omega arith) c.node_count-nodes.ensures.certificate,
     )

@@ -10,10 +10,10 @@ use Rattle.srs_atlas.specs.Books.{IsLawful}
 use Rattle.srs_crew.specs.Rounds.{AreDone}
 use Rattle.srs_crew.proofs.Working.{work_of, more}
 use Rattle.srs_crew.proofs.rounds.settle_all.Goals as goal
-use Rattle.srs_crew.proofs.rounds.settle_all.Goals.{then-len-job+in_ok-settle, else-len-job}
+use Rattle.srs_crew.proofs.rounds.settle_all.Goals.{then-len-job+in_ok-refiner+in_ok-settle, else-len-job}
 
 pub settle-requires-clause-work : goal.settle-requires-clause-work
-settle-requires-clause-work g c =
+settle-requires-clause-work g c κs within =
     work_of c.args.atlas.now.fixed c.args.pass.now.seen c.requires.lawful c.args.cells.now c.requires.waiting c.args.job.now.round c.args.job.now.last c.requires.round c.loop-i.pass.seen c.loop-i.invariant.1
     c.loop-i.i c.get-cell.result.now c.get-cell.ensures (sym (ap (λ (x : WaitingCell). length x.path) c.cell.view_is) ∙ sym c.len.ensures.len ∙ c.if-len-job.true)
 
@@ -21,7 +21,7 @@ pub loop-i-preserved : goal.loop-i-preserved
 loop-i-preserved g c =
     let Kept : Seen Entry Terms → Type 0 = λ p. IsPassOf c.args.atlas.now p × Begins c.args.pass.now.seen p.seen × IsLawful c.args.atlas.now.fixed p.seen × AreDone c.args.cells.now (c.loop-i.i + 1) c.args.job.now.round p.seen in
     elim c.if-len-job.branch [
-      | then-len-job+in_ok-settle w ↦ subst Kept (sym w.pass-is) (
+      | then-len-job+in_ok-refiner+in_ok-settle w ↦ subst Kept (sym w.pass-is) (
         w.settle.ensures.own,
         begins_trans _ _ _ c.loop-i.invariant.1 w.settle.ensures.seen,
         w.settle.ensures.lawful,

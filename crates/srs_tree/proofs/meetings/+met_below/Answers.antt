@@ -5,7 +5,6 @@ use Rattle.srs_cell.specs.Parts.{AreParts, AreBoth}
 use Rattle.srs_path.specs.declared.paths.Side.TheVariants.{Ge, Lt}
 use Rattle.srs_tree.specs.Nodes.{root_of, spots_tree}
 use Rattle.srs_tree.specs.Answers.{reply_of, reply_by, IsMarked, IsMet}
-use Rattle.srs_tree.proofs.Below.{read_at}
 use Rattle.srs_tree.proofs.Descent.{lt_within, spots_closed}
 use Rattle.srs_tree.proofs.Spots.{tree_there}
 use Rattle.srs_tree.proofs.Ways.{leaf_for, shorter, cut_piece, whole_piece, goes}
@@ -15,8 +14,8 @@ use Rattle.srs_tree.proofs.meetings.+met_below.Goals as goal
 pub returns-in_default : goal.returns-in_default
 returns-in_default t c =
     let xs = c.args.nodes.now in
-    let x = c.index-nodes-i.result in
-    let f = read_at xs c.args.i x c.requires.there c.index-nodes-i.is in
+    let x = c.get-node.result.now in
+    let f = c.get-node.ensures.item in
     met_leaf (root_of xs) (spots_tree xs) (spots_closed xs c.requires.spots) c.args.cell.now x.path (reply_of c.answer.result) c.of.result c.region.ensures.has_point
     (λ r k. (leaf_for xs c.requires.spots c.args.i x f r c.in_default.ensures (c.requires.holds x f r k)).holds)
     (c.answer.ensures ∙ ap reply_by (sym (tree_there xs c.requires.spots.once c.args.i x f)))
@@ -25,24 +24,24 @@ returns-in_default t c =
 pub path_at-path-requires : goal.path_at-path-requires
 path_at-path-requires t c =
     let xs = c.args.nodes.now in
-    let x = c.index-nodes-i.result in
-    let f = read_at xs c.args.i x c.requires.there c.index-nodes-i.is in
+    let x = c.get-node.result.now in
+    let f = c.get-node.ensures.item in
     let l = lt_within xs c.requires.spots c.args.i x c.in-Some.form.now f c.in-Some.ensures.0 in
     omega (arith, l, c.in-Some.ensures.1)
 
 pub cut-requires-2 : goal.cut-requires-2
 cut-requires-2 t c =
     let xs = c.args.nodes.now in
-    let x = c.index-nodes-i.result in
-    let f = read_at xs c.args.i x c.requires.there c.index-nodes-i.is in
+    let x = c.get-node.result.now in
+    let f = c.get-node.ensures.item in
     let short = shorter xs c.requires.spots c.args.i x f c.in-Some.form.now c.in-Some.ensures.0 c.in-Some.ge c.in-Some.ensures.1 c.path_at-path.result c.path_at-path.ensures (omega (arith, c.len.ensures.len, c.len.ensures.short)) in
     omega (arith, c.requires.few x f, short)
 
 pub met_below-requires : goal.met_below-requires
 met_below-requires t c =
     let xs = c.args.nodes.now in
-    let x = c.index-nodes-i.result in
-    let f = read_at xs c.args.i x c.requires.there c.index-nodes-i.is in
+    let x = c.get-node.result.now in
+    let f = c.get-node.ensures.item in
     let h = c.in-Some.form.now in
     let C : Area = c.args.cell.now in
     let cut = c.in-Some.ensures in
@@ -55,16 +54,16 @@ met_below-requires t c =
 pub overflow_add-ge : goal.overflow_add-ge
 overflow_add-ge t c =
     let xs = c.args.nodes.now in
-    let x = c.index-nodes-i.result in
-    let f = read_at xs c.args.i x c.requires.there c.index-nodes-i.is in
+    let x = c.get-node.result.now in
+    let f = c.get-node.ensures.item in
     let l = lt_within xs c.requires.spots c.args.i x c.in-Some.form.now f c.in-Some.ensures.0 in
     omega (arith, l, c.in-Some.ensures.1)
 
 pub met_below-requires-in-Both : goal.met_below-requires-in-Both
 met_below-requires-in-Both t c =
     let xs = c.args.nodes.now in
-    let x = c.index-nodes-i.result in
-    let f = read_at xs c.args.i x c.requires.there c.index-nodes-i.is in
+    let x = c.get-node.result.now in
+    let f = c.get-node.ensures.item in
     let h = c.in-Some.form.now in
     let C : Area = c.args.cell.now in
     let cut = c.in-Some.ensures in
@@ -77,8 +76,8 @@ met_below-requires-in-Both t c =
 pub met_below-requires-in-AllGe : goal.met_below-requires-in-AllGe
 met_below-requires-in-AllGe t c =
     let xs = c.args.nodes.now in
-    let x = c.index-nodes-i.result in
-    let f = read_at xs c.args.i x c.requires.there c.index-nodes-i.is in
+    let x = c.get-node.result.now in
+    let f = c.get-node.ensures.item in
     let h = c.in-Some.form.now in
     let C : Area = c.args.cell.now in
     let cut = c.in-Some.ensures in
@@ -90,16 +89,16 @@ met_below-requires-in-AllGe t c =
 pub overflow_add-ge-in-AllLt : goal.overflow_add-ge-in-AllLt
 overflow_add-ge-in-AllLt t c =
     let xs = c.args.nodes.now in
-    let x = c.index-nodes-i.result in
-    let f = read_at xs c.args.i x c.requires.there c.index-nodes-i.is in
+    let x = c.get-node.result.now in
+    let f = c.get-node.ensures.item in
     let l = lt_within xs c.requires.spots c.args.i x c.in-Some.form.now f c.in-Some.ensures.0 in
     omega (arith, l, c.in-Some.ensures.1)
 
 pub met_below-requires-in-AllLt : goal.met_below-requires-in-AllLt
 met_below-requires-in-AllLt t c =
     let xs = c.args.nodes.now in
-    let x = c.index-nodes-i.result in
-    let f = read_at xs c.args.i x c.requires.there c.index-nodes-i.is in
+    let x = c.get-node.result.now in
+    let f = c.get-node.ensures.item in
     let h = c.in-Some.form.now in
     let C : Area = c.args.cell.now in
     let cut = c.in-Some.ensures in

@@ -1,6 +1,6 @@
 -- The part within the root, and what is beyond.
 use Rattle.std.proofs.Common.{◌≡◌, sym, ap, subst, ◌∙◌}
-use Rattle.std.proofs.lemmas.Option.{get_or_from_slice_get}
+use Rattle.std.proofs.lemmas.Option.{same_Some}
 use Rattle.srs_plane.specs.Regions.{Area, IsIn}
 use Rattle.srs_tree.specs.Nodes.{Spot, root_of, spots_tree}
 use Rattle.srs_tree.specs.Answers.{IsMarked, IsMet}
@@ -12,7 +12,7 @@ use Rattle.srs_tree.proofs.meetings.met_by.Goals as goal
 pub returns-in-Some : goal.returns-in-Some
 returns-in-Some c =
     let xs = c.args.nodes.now in
-    let same : c.index-nodes-0.result ≡ c.requires.spots.first = c.index-nodes-0.is ∙ get_or_from_slice_get xs 0 c.requires.spots.first c.index-nodes-0.result c.requires.spots.is_first in
+    let same : c.get.result.now ≡ c.requires.spots.first = same_Some _ _ (sym c.get.ensures.item ∙ c.requires.spots.is_first) in
     let root : c.region.result.now ≡ root_of xs
     = c.region.ensures.value ∙ c.deref.ensures ∙ c.cell.ensures ∙ ap (λ (z : Spot). z.region) same ∙ sym (root_of_first xs c.requires.spots.first c.requires.spots.is_first) in
     let clip : IsClip c.args.q.now (IsIn (root_of xs)) c.in_ok-clip.clip = subst (λ (R : Area). IsClip c.args.q.now (IsIn R) c.in_ok-clip.clip) root c.in_ok-clip.ensures.clip in
@@ -22,7 +22,7 @@ returns-in-Some c =
 pub returns : goal.returns
 returns c =
     let xs = c.args.nodes.now in
-    let same : c.index-nodes-0.result ≡ c.requires.spots.first = c.index-nodes-0.is ∙ get_or_from_slice_get xs 0 c.requires.spots.first c.index-nodes-0.result c.requires.spots.is_first in
+    let same : c.get.result.now ≡ c.requires.spots.first = same_Some _ _ (sym c.get.ensures.item ∙ c.requires.spots.is_first) in
     let root : c.region.result.now ≡ root_of xs
     = c.region.ensures.value ∙ c.deref.ensures ∙ c.cell.ensures ∙ ap (λ (z : Spot). z.region) same ∙ sym (root_of_first xs c.requires.spots.first c.requires.spots.is_first) in
     let clip : IsClip c.args.q.now (IsIn (root_of xs)) c.in_ok-clip.clip = subst (λ (R : Area). IsClip c.args.q.now (IsIn R) c.in_ok-clip.clip) root c.in_ok-clip.ensures.clip in

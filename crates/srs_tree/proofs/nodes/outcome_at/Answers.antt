@@ -8,10 +8,10 @@ returns-in_default c = no_outcome c.args.nodes.now c.args.path.now c.requires c.
 
 pub returns-in-Some : goal.returns-in-Some
 returns-in-Some c =
-    has_outcome c.args.nodes.now c.args.path.now c.in-Ok.i c.index-nodes-i.result c.requires c.in-Ok.ensures.found c.index-nodes-i.is
+    has_outcome c.args.nodes.now c.args.path.now c.in-Ok.i c.get.result.now c.requires c.in-Ok.ensures.found c.get.ensures.item
     ∙ c.in-Some.ensures ∙ ap Some (sym c.deref.ensures)
 
 pub returns-in-None : goal.returns-in-None
 returns-in-None c =
-    has_outcome c.args.nodes.now c.args.path.now c.in-Ok.i c.index-nodes-i.result c.requires c.in-Ok.ensures.found c.index-nodes-i.is
+    has_outcome c.args.nodes.now c.args.path.now c.in-Ok.i c.get.result.now c.requires c.in-Ok.ensures.found c.get.ensures.item
     ∙ c.in-None.ensures

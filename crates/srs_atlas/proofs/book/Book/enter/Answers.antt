@@ -13,14 +13,14 @@ use Rattle.srs_atlas.proofs.book.Book.enter.Goals as goal
 ready : (c : goal.After-len) → IsReady (record { root = c.self.inside.version.region; w = c.self.inside.w; plan = c.self.inside.plan }) c.self.inside.events.items c.args.path c.args.f
 ready c = subst (λ (k : Kept). IsReady k.terms k.history c.args.path c.args.f) (sym c.self.view_is) c.requires
 
-same : (c : goal.After-len) → ◌≡◌ {A = Terms} (record { root = c.enter.new.self.region; w = c.self.inside.w; plan = c.self.inside.plan }) (record { root = c.self.inside.version.region; w = c.self.inside.w; plan = c.self.inside.plan })
+same : (c : goal.After-len) → ◌≡◌ {A = Terms} (record { root = c.in-Ok.field-0.version.region; w = c.self.inside.w; plan = c.self.inside.plan }) (record { root = c.self.inside.version.region; w = c.self.inside.w; plan = c.self.inside.plan })
 same c = λ i. record { root = ap (λ (v : Snapshot). v.region) c.in-Ok.ensures.entered i; w = c.self.inside.w; plan = c.self.inside.plan }
 
 made : (c : goal.After-len) → (c.push_reserved.new.self.items ≡ c.self.inside.events.items ++ event_at c.args.path c.args.f.outcome ∷ [])
-    × IsBook (record { root = c.enter.new.self.region; w = c.self.inside.w; plan = c.self.inside.plan }) c.push_reserved.new.self.items c.enter.new.self c.replace.new.cells.items
+    × IsBook (record { root = c.in-Ok.field-0.version.region; w = c.self.inside.w; plan = c.self.inside.plan }) c.push_reserved.new.self.items c.in-Ok.field-0.version c.replace.new.cells.items
 made c =
     book_after _ _ _ _ c.args.path c.args.f c.self.invariant c.in-Ok.ensures.may (ready c) c.w.ensures.sound
-    c.enter.new.self c.reserve.new.self.items c.push_reserved.new.self.items c.in-Ok.field-0.outcome.value c.reserve-else-is_err.new.self.items c.replace.new.cells.items (cells_from c.in-Ok.field-0.parts) c.in-Some.at _
+    c.in-Ok.field-0.version c.reserve.new.self.items c.push_reserved.new.self.items c.in-Ok.field-0.outcome.value c.reserve-else-is_err.new.self.items c.replace.new.cells.items (cells_from c.in-Ok.field-0.parts) c.in-Some.at _
     c.in-Ok.ensures.entered (subst (λ (cs : List WaitingCell). IsPlaceAt cs c.args.path c.in-Some.at) c.deref.ensures.value c.in-Some.ensures.some) c.reserve-else-is_err.ensures.items
     c.replace.ensures c.in-Ok.ensures.parts c.reserve.ensures.items c.push_reserved.ensures.items c.in-Ok.ensures.outcome (same c)
 
@@ -36,8 +36,8 @@ pub returns-in-Some-clause-did : goal.returns-in-Some-clause-did
 returns-in-Some-clause-did c =
     let m = made c in
     subst (λ (k : Kept). Commits k.terms c.args.path c.args.f k.history (IsDone c.len.result) c.push_reserved.new.self.items) c.self.view_is
-    (done _ _ _ _ c.args.path c.args.f c.self.invariant c.in-Ok.ensures.may (ready c) c.w.ensures.sound c.enter.new.self c.replace.new.cells.items c.push_reserved.new.self.items c.len.result m.0 (omega (arith, c.push_reserved.new.self.ok.0))
-    (subst (λ (t : Terms). IsBook t c.push_reserved.new.self.items c.enter.new.self c.replace.new.cells.items) (same c) m.1))
+    (done _ _ _ _ c.args.path c.args.f c.self.invariant c.in-Ok.ensures.may (ready c) c.w.ensures.sound c.in-Ok.field-0.version c.replace.new.cells.items c.push_reserved.new.self.items c.len.result m.0 (omega (arith, c.push_reserved.new.self.ok.0))
+    (subst (λ (t : Terms). IsBook t c.push_reserved.new.self.items c.in-Ok.field-0.version c.replace.new.cells.items) (same c) m.1))
 
 pub returns-in-Err-clause-did : goal.returns-in-Err-clause-did
 returns-in-Err-clause-did c =
