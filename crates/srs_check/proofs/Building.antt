@@ -21,8 +21,8 @@ use Rattle.srs_tree.specs.WholeTrees.{AllowsAt}
 use Rattle.srs_tree.specs.Snapshots.{Snapshot, tree_of, with_entry, StandsFor}
 use Rattle.srs_tree.proofs.HistoryLemmas.{path_eq_same}
 use Rattle.srs_tree.proofs.StandsLemmas.{path_total, ties, Stands-empty, Stands-append}
-use Rattle.srs_file.specs.Certificates.{CertView, IsCertificate}
-use Rattle.srs_file.proofs.Preordered.{here_first, take_here, Takes, walked_takes}
+use Rattle.srs_cert.specs.Certificates.{CertView, IsCertificate}
+use Rattle.srs_cert.proofs.Preordered.{here_first, take_here, Takes, walked_takes}
 use Rattle.srs_check.specs.Proving.{Proves, cell_at}
 use Rattle.srs_check.specs.Builds.{as_built, built_in, IsBuilt}
 use Rattle.srs_check.proofs.Cuts.{cuts_of, cut_in, outcome_at-cuts, cell_forth, cell_back, region_same, region_then, legal_upto}

@@ -21,7 +21,7 @@ use Rattle.srs_tree.specs.Tree.{Tree, outcome_at, halves_along, cut_half}
 use Rattle.srs_tree.specs.Rounds.{parts_by}
 use Rattle.srs_tree.specs.Growth.{IsProvedOf}
 use Rattle.srs_tree.proofs.HistoryLemmas.{region_at-snoc}
-use Rattle.srs_file.specs.Certificates.{CertView, IsCertificate}
+use Rattle.srs_cert.specs.Certificates.{CertView, IsCertificate}
 use Rattle.srs_check.specs.declared.faults.Fault.{Fault}
 use Rattle.srs_check.specs.Proving.{Proves, ProvesItself, IsProved, cell_at}
 use Rattle.srs_check.specs.Faults.{Fails, IsFaultOf}
@@ -29,7 +29,7 @@ use Rattle.srs_check.specs.declared.nodes.Tested.{Tested}
 use Rattle.srs_check.specs.declared.nodes.Tested.TheVariants.{Leaf, Divided, Wrong}
 use Rattle.srs_check.specs.Tested.{IsGoodLeaf, IsDivided, IsTested}
 use Rattle.srs_check.specs.Certified.{IsCertified}
-use Rattle.srs_file.proofs.Preordered.{IsWalked, Takes, walked_first, walked_takes, walked_outcome}
+use Rattle.srs_cert.proofs.Preordered.{IsWalked, Takes, walked_first, walked_takes, walked_outcome}
 use Rattle.srs_check.proofs.Cuts.{DividesBefore, partition}
 
 -- the node proves itself, and what it claims is sound

@@ -13,7 +13,7 @@ use crate::rows::{node_count, rows_of};
 use crate::waiting::Waiting;
 use crate::{Counts, Fault};
 use srs_cell::Cell;
-use srs_file::Cert;
+use srs_cert::Cert;
 use srs_num::NoMemory;
 use srs_path::{Event, Finding, Outcome};
 use srs_tree::{Pending, TreeErr, Version};

@@ -11,7 +11,7 @@ use crate::rows::{node_count, rows_of};
 use crate::waiting::Waiting;
 use crate::{Checked, Counts, Fault};
 use srs_cell::Cell;
-use srs_file::Cert;
+use srs_cert::Cert;
 use srs_num::NoMemory;
 use srs_path::Outcome;
 use srs_plane::{PolyErr, polygon};

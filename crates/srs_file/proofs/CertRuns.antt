@@ -11,8 +11,8 @@ use Rattle.srs_line.proofs.MachineLemmas.{runs_append, runs_inside}
 use Rattle.srs_line.proofs.LineTexts.{says_line, line_no_lf}
 use Rattle.srs_file.specs.declared.cert_reader.CertPhase.TheVariants.{Head, Vertices}
 use Rattle.srs_file.specs.declared.cert_reader.CertReader.{CertReader}
-use Rattle.srs_file.specs.Texts.{ended, vertex_text}
-use Rattle.srs_file.specs.Certificates.{CertView, cert_text}
+use Rattle.srs_cert.specs.Texts.{ended, vertex_text}
+use Rattle.srs_cert.specs.Certificates.{CertView, cert_text}
 use Rattle.srs_file.specs.Grammar.{SpellsCertificate}
 use Rattle.srs_file.specs.Ring.{RingView}
 use Rattle.srs_file.specs.TreeReading.{no_tree, no_leaf}

@@ -7,8 +7,8 @@ use Rattle.srs_line.proofs.LineTexts.{said_is}
 use Rattle.srs_file.specs.declared.cert_reader.CertPhase.{CertPhase}
 use Rattle.srs_file.specs.declared.cert_reader.CertPhase.TheVariants.{First, Head, Vertices, Nodes, Done}
 use Rattle.srs_file.specs.declared.cert_reader.CertReader.{CertReader}
-use Rattle.srs_file.specs.Texts.{ended, count_text, limits_text, head_text, outcome_text}
-use Rattle.srs_file.specs.Certificates.{outcomes_of, IsCertificate, cert_text}
+use Rattle.srs_cert.specs.Texts.{ended, count_text, limits_text, head_text, outcome_text}
+use Rattle.srs_cert.specs.Certificates.{outcomes_of, IsCertificate, cert_text}
 use Rattle.srs_file.specs.Grammar.{SpellsCertificate}
 use Rattle.srs_file.specs.CertReading.{StepsFrom, CertSteps, CertEnds, cert_start, read_view}
 use Rattle.srs_file.specs.Ring.{IsFull}

@@ -8,11 +8,6 @@ pub mod CertTexts
 pub mod LineShapes
 pub mod TreeRuns
 pub mod CertRuns
-pub mod LineCounts
-pub mod NodeLines
-pub mod Preordered
-pub mod LtParts
-pub mod Descents
 pub mod RingLaws
 pub mod RingTexts
 pub mod QuestionLaws

@@ -14,7 +14,7 @@ use Rattle.srs_line.proofs.LineTexts.{said_is}
 use Rattle.srs_file.specs.declared.polygon_reader.Phase.{Phase}
 use Rattle.srs_file.specs.declared.polygon_reader.Phase.TheVariants.{Head, Vertices, Done}
 use Rattle.srs_file.specs.declared.polygon_reader.PolygonReader.{PolygonReader}
-use Rattle.srs_file.specs.Texts.{ended, vertex_text, polygon_text}
+use Rattle.srs_cert.specs.Texts.{ended, vertex_text, polygon_text}
 use Rattle.srs_file.specs.Grammar.{SpellsPolygon}
 use Rattle.srs_file.specs.Ring.{RingView, IsFull}
 use Rattle.srs_file.specs.PolygonReading.{StepsFrom, Steps, Slips, IsEnd, start, ReadsAs, IsRefusal, IsOutside}

@@ -22,8 +22,8 @@ use Rattle.srs_line.proofs.FieldLaws.{says_word}
 use Rattle.srs_file.specs.declared.tree.Tree.{Tree}
 use Rattle.srs_file.specs.declared.cert_reader.CertPhase.TheVariants.{Nodes, Done}
 use Rattle.srs_file.specs.declared.cert_reader.CertReader.{CertReader}
-use Rattle.srs_file.specs.Texts.{ended, count_text, rank_text, outcome_text}
-use Rattle.srs_file.specs.Certificates.{CertView, IsInRange}
+use Rattle.srs_cert.specs.Texts.{ended, count_text, rank_text, outcome_text}
+use Rattle.srs_cert.specs.Certificates.{CertView, IsInRange}
 use Rattle.srs_file.specs.Ring.{RingView}
 use Rattle.srs_file.specs.Leaf.{LeafView, IsEntry, Follows}
 use Rattle.srs_file.specs.TreeReading.{left_line, no_leaf, at_path, Counts}

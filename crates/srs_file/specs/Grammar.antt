@@ -4,8 +4,8 @@ use Rattle.std.specs.List.{flat_map}
 use Rattle.srs_plane.specs.declared.polygons.Vertex.{Vertex}
 use Rattle.srs_plane.specs.Polygons.{IsPolygon}
 use Rattle.srs_tree.specs.declared.queries.Query.{Query}
-use Rattle.srs_file.specs.Texts.{ended, polygon_text}
-use Rattle.srs_file.specs.Certificates.{CertView, IsCertificate, cert_text}
+use Rattle.srs_cert.specs.Texts.{ended, polygon_text}
+use Rattle.srs_cert.specs.Certificates.{CertView, IsCertificate, cert_text}
 use Rattle.srs_file.specs.Questions.{AreQuestions}
 
 -- the text is that of the polygon with these vertices: the input of `certify`

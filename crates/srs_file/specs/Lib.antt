@@ -1,7 +1,3 @@
-pub mod Texts
-pub mod Certificates
-pub mod Heights
-pub mod Sayings
 pub mod Questions
 pub mod Grammar
 pub mod Ring

@@ -3,12 +3,13 @@ ghost use Rattle.std.specs.Prelude.{List, ℕ, ◌≡◌, ◌+◌, ◌^◌, ◌<
 ghost use Rattle.srs_tree.specs.declared.queries.Query.{Query};
 ghost use Rattle.srs_line.specs.declared.slip.Slip.{Slip};
 ghost use Rattle.srs_line.specs.Refusal.{IsSlip};
-ghost use Rattle.srs_file.specs.Certificates.{CertView};
+ghost use Rattle.srs_cert.specs.Certificates.{CertView};
 ghost use Rattle.srs_file.specs.Grammar.{SpellsAsk};
 ghost use Rattle.srs_file.specs.QuestionReading.{SlipsQuestion};
 ghost use Rattle.srs_file.specs.AskReading.{ask_start, EndsHere, StepsAsking, ReadsAsAsk, FirstAskSlip, IsAskRefusal, IsNoAsk};
 
-use crate::{Cert, CertReader, Questions};
+use crate::{CertReader, Questions};
+use srs_cert::Cert;
 use srs_line::{FileErr, LineErr, LineMachine, Slip, never_both, one_slip, read_lines, read_once};
 use srs_tree::Queries;
 use std::alloc::Global;

@@ -4,10 +4,11 @@ ghost use Rattle.srs_path.specs.Views.{Budget, IsBudget};
 ghost use Rattle.srs_line.specs.declared.slip.Slip.{Slip};
 ghost use Rattle.srs_line.specs.Refusal.{IsSlip};
 ghost use Rattle.srs_file.specs.Grammar.{SpellsCertificate};
-ghost use Rattle.srs_file.specs.Certificates.{CertView, IsCertificate, cert_text};
+ghost use Rattle.srs_cert.specs.Certificates.{CertView, IsCertificate, cert_text};
 ghost use Rattle.srs_file.specs.CertReading.{cert_start, read_view, StepsFirst, SlipsFirst, StepsHead, SlipsHead, SaysLimits, AreNoLimits, IsLimitsSlip, StepsLimits, StepsVertices, SlipsVertices, StepsNodes, SlipsNodes, ReadsAsCert, FirstCertSlip, IsCertRefusal, IsNoCert};
 
-use crate::{Cert, Ring, Tree};
+use crate::{Ring, Tree};
+use srs_cert::Cert;
 use srs_line::{
     FileErr, LineErr, LineMachine, Slip, never_both, one, one_slip, read_lines, read_once, three,
 };

@@ -1,5 +1,5 @@
 use Rattle.std.proofs.Common.{◌≡◌, sym, ◌∙◌, ap, refl}
-use Rattle.srs_file.specs.Certificates.{cert_text}
+use Rattle.srs_cert.specs.Certificates.{cert_text}
 use Rattle.srs_file.specs.CertReading.{cert_start, read_view}
 use Rattle.srs_file.proofs.CertLaws.{cert_exact}
 use Rattle.srs_file.proofs.CertTexts.{read_is_cert}

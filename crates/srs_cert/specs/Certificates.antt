@@ -14,7 +14,7 @@ use Rattle.srs_tree.specs.Tree.{History}
 use Rattle.srs_tree.specs.WholeTrees.{ListsWholeTree, IsWithin}
 use Rattle.srs_tree.specs.Snapshots.{Snapshot, StandsFor}
 use Rattle.srs_tree.specs.Preorder.{preorder_of}
-use Rattle.srs_file.specs.Texts.{head_text, outcome_text, certificate_text}
+use Rattle.srs_cert.specs.Texts.{head_text, outcome_text, certificate_text}
 
 -- what a certificate is seen as: the vertices of its polygon, its limits, and the events of its tree in preorder
 pub record CertView : Type 0 where

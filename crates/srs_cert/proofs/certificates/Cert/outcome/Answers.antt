@@ -2,8 +2,8 @@ use Rattle.std.proofs.Common.{◌≡◌, slice_get, Some, sym, ap, ◌∙◌, ar
 use Rattle.std.proofs.lemmas.Option.{slice_get_within}
 use Rattle.srs_path.specs.Views.{Entry}
 use Rattle.srs_tree.specs.Tree.{History}
-use Rattle.srs_file.proofs.Descents.{root_stands, next_stands, stops_at, arrives}
-use Rattle.srs_file.proofs.certificates.Cert.outcome.Goals as goal
+use Rattle.srs_cert.proofs.Descents.{root_stands, next_stands, stops_at, arrives}
+use Rattle.srs_cert.proofs.certificates.Cert.outcome.Goals as goal
 
 pub loop-k-init : goal.loop-k-init
 loop-k-init c = root_stands c.args.self.now.events c.events-events.ensures.certificate.tree

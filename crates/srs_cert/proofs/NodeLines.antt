@@ -13,10 +13,10 @@ use Rattle.srs_path.specs.declared.outcomes.Outcome.TheVariants.{Inside, Outside
 use Rattle.srs_path.specs.Views.{Budget, IsBudget, Entry}
 use Rattle.srs_tree.specs.Tree.{History}
 use Rattle.srs_tree.specs.WholeTrees.{AllowsAt, KeepsTo, IsWithin}
-use Rattle.srs_file.specs.Texts.{outcome_text, head_text}
-use Rattle.srs_file.specs.Heights.{height}
-use Rattle.srs_file.specs.Certificates.{CertView, outcomes_of, IsInRange, lf_count, text_before, line_of_node}
-use Rattle.srs_file.proofs.LineCounts.{lf-append, head_lines, outcome_lines}
+use Rattle.srs_cert.specs.Texts.{outcome_text, head_text}
+use Rattle.srs_cert.specs.Heights.{height}
+use Rattle.srs_cert.specs.Certificates.{CertView, outcomes_of, IsInRange, lf_count, text_before, line_of_node}
+use Rattle.srs_cert.proofs.LineCounts.{lf-append, head_lines, outcome_lines}
 
 -- the lines of the nodes before node i are listed, and the next one is known
 pub record LinesSoFar (c : CertView) (lines : List ℕ) (i line : ℕ) : Type 0 where

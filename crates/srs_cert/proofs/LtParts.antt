@@ -13,7 +13,7 @@ use Rattle.srs_path.specs.Views.{Entry}
 use Rattle.srs_tree.specs.Tree.{History}
 use Rattle.srs_tree.specs.Rounds.{parts_by}
 use Rattle.srs_tree.specs.WholeTrees.{ListsTrees, ListsWholeTree}
-use Rattle.srs_file.specs.Certificates.{StandsAt, ListsLtParts}
+use Rattle.srs_cert.specs.Certificates.{StandsAt, ListsLtParts}
 
 -- the path of the Lt part of the event at place c
 abbrev pub lt_path : History → ℕ → List Side

@@ -14,9 +14,9 @@ use Rattle.srs_path.specs.declared.outcomes.Outcome.{Outcome}
 use Rattle.srs_path.specs.declared.outcomes.Outcome.TheVariants.{Inside, Outside, Cut, Left}
 use Rattle.srs_path.specs.Views.{Budget}
 use Rattle.srs_line.specs.Fields.{line_of}
-use Rattle.srs_file.specs.Texts.{ended, count_text, kind_word, vertex_text, ring_text, limits_text, rank_text, cause_text, outcome_text, head_text}
-use Rattle.srs_file.specs.Heights.{height}
-use Rattle.srs_file.specs.Certificates.{lf_count}
+use Rattle.srs_cert.specs.Texts.{ended, count_text, kind_word, vertex_text, ring_text, limits_text, rank_text, cause_text, outcome_text, head_text}
+use Rattle.srs_cert.specs.Heights.{height}
+use Rattle.srs_cert.specs.Certificates.{lf_count}
 
 -- the text has no LF
 abbrev pub NoLf : List ℕ → Type 0

@@ -5,9 +5,9 @@ use Rattle.srs_path.specs.declared.paths.Side.TheVariants.{Ge, Lt}
 use Rattle.srs_path.specs.declared.outcomes.Outcome.TheVariants.{Cut}
 use Rattle.srs_path.specs.Views.{Entry}
 use Rattle.srs_tree.specs.Tree.{History}
-use Rattle.srs_file.specs.Certificates.{CertView, StandsAt}
-use Rattle.srs_file.proofs.Descents.{ge_stands}
-use Rattle.srs_file.proofs.certificates.Cert.part.Goals as goal
+use Rattle.srs_cert.specs.Certificates.{CertView, StandsAt}
+use Rattle.srs_cert.proofs.Descents.{ge_stands}
+use Rattle.srs_cert.proofs.certificates.Cert.part.Goals as goal
 
 pub returns-in-Ge-clause-part : goal.returns-in-Ge-clause-part
 returns-in-Ge-clause-part c e at =

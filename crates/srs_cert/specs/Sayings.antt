@@ -11,7 +11,7 @@ use Rattle.srs_tree.specs.declared.answers.Met.{Met}
 use Rattle.srs_tree.specs.declared.queries.Said.{Said}
 use Rattle.srs_tree.specs.declared.queries.Said.TheVariants.{At, Version, Point, Count, Polygon, Orbit}
 use Rattle.srs_line.specs.Fields.{line_of}
-use Rattle.srs_file.specs.Texts.{ended, count_text, cause_text}
+use Rattle.srs_cert.specs.Texts.{ended, count_text, cause_text}
 
 -- `open`, and the cause where there is one
 abbrev pub open_text : Option Cause → List ℕ

@@ -6,8 +6,8 @@ ghost use Rattle.srs_path.specs.declared.outcomes.Outcome.TheVariants.{Cut};
 ghost use Rattle.srs_path.specs.Views.{Entry};
 ghost use Rattle.srs_tree.specs.Tree.{outcome_at};
 ghost use Rattle.srs_tree.specs.WholeTrees.{ListsWholeTree, IsWithin};
-ghost use Rattle.srs_file.specs.Heights.{height};
-ghost use Rattle.srs_file.specs.Certificates.{line_of_node, IsInRange, IsCertificate, ListsLines, StandsAt, ListsLtParts};
+ghost use Rattle.srs_cert.specs.Heights.{height};
+ghost use Rattle.srs_cert.specs.Certificates.{line_of_node, IsInRange, IsCertificate, ListsLines, StandsAt, ListsLtParts};
 
 use srs_num::NoMemory;
 use srs_path::{Limits, Outcome, Path, Side};
@@ -28,7 +28,7 @@ pub struct Cert {
 }
 
 impl Model for Cert {
-    ghost use Rattle.srs_file.specs.Certificates.{CertView, IsKept};
+    ghost use Rattle.srs_cert.specs.Certificates.{CertView, IsKept};
 
     ghost Value = { CertView };
 

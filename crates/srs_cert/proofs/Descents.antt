@@ -13,9 +13,9 @@ use Rattle.srs_tree.specs.Tree.{History, outcome_at}
 use Rattle.srs_tree.specs.Rounds.{parts_by}
 use Rattle.srs_tree.specs.WholeTrees.{ListsTrees, ListsWholeTree}
 use Rattle.srs_tree.proofs.Trees.{IsClosed, none_below}
-use Rattle.srs_file.specs.Certificates.{StandsAt}
-use Rattle.srs_file.proofs.LtParts.{head_at}
-use Rattle.srs_file.proofs.Preordered.{AreOpenAfter, none_or, walked_all, walked_takes, walked_outcome}
+use Rattle.srs_cert.specs.Certificates.{StandsAt}
+use Rattle.srs_cert.proofs.LtParts.{head_at}
+use Rattle.srs_cert.proofs.Preordered.{AreOpenAfter, none_or, walked_all, walked_takes, walked_outcome}
 
 module _ (H : History) (tree : ListsWholeTree H) where
   -- each path that has an event is a cell

@@ -1,10 +1,10 @@
 use Rattle.std.proofs.Common.{◌≡◌, ◌++◌, ◌∷◌, [], arith, ap, ◌∙◌, subst}
 use Rattle.std.proofs.lemmas.Grind.{common_steps}
 use Rattle.srs_path.specs.Views.{Entry}
-use Rattle.srs_file.specs.Heights.{height}
-use Rattle.srs_file.specs.Certificates.{CertView, IsInRange}
-use Rattle.srs_file.proofs.NodeLines.{lines_start, lines_more, lines_fit, all_ranges}
-use Rattle.srs_file.proofs.certificates.lines_of.Goals as goal
+use Rattle.srs_cert.specs.Heights.{height}
+use Rattle.srs_cert.specs.Certificates.{CertView, IsInRange}
+use Rattle.srs_cert.proofs.NodeLines.{lines_start, lines_more, lines_fit, all_ranges}
+use Rattle.srs_cert.proofs.certificates.lines_of.Goals as goal
 
 pub loop-i-init : goal.loop-i-init
 loop-i-init c =

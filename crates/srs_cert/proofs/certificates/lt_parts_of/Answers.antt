@@ -3,9 +3,9 @@ use Rattle.std.proofs.lemmas.Grind.{common_steps}
 use Rattle.srs_num.specs.Points.{LinearForm}
 use Rattle.srs_path.specs.declared.outcomes.Outcome.TheVariants.{Cut}
 use Rattle.srs_path.specs.Views.{Entry}
-use Rattle.srs_file.proofs.LtParts.{parts_start, parts_cut, parts_leaf, parts_last, parts_end, top_below}
-use Rattle.srs_file.proofs.certificates.lt_parts_of.Goals as goal
-use Rattle.srs_file.proofs.certificates.lt_parts_of.Goals.{then-is_cut+else-is_err-2, else-is_cut+in-Some, else-is_cut+in_default}
+use Rattle.srs_cert.proofs.LtParts.{parts_start, parts_cut, parts_leaf, parts_last, parts_end, top_below}
+use Rattle.srs_cert.proofs.certificates.lt_parts_of.Goals as goal
+use Rattle.srs_cert.proofs.certificates.lt_parts_of.Goals.{then-is_cut+else-is_err-2, else-is_cut+in-Some, else-is_cut+in_default}
 
 empty_is : (xs : List ℕ) → length xs ≡ 0 → xs ≡ []
 empty_is [] e = refl

@@ -1,0 +1,4 @@
+pub mod Texts
+pub mod Certificates
+pub mod Heights
+pub mod Sayings
