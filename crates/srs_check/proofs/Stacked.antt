@@ -1,9 +1,12 @@
 -- What comes off a stack of cells.
-use Rattle.std.proofs.Common.{◌≡◌, true≢false, List, [], ◌∷◌, ◌++◌, length, length-append, get_or, refl, sym, ap, subst, ◌∙◌, arith}
+use Rattle.std.proofs.Common.{◌≡◌, true≢false, List, [], ◌∷◌, ◌++◌, ℕ, ◌+◌, ◌<◌, length, length-append, get_or, refl, sym, ap, subst, ◌∙◌, arith}
 use Rattle.std.specs.Prelude.{All, IsSome, is_some, MatchOption, reverse, option_to_list}
 use Rattle.std.specs.List.{flat_map}
 use Rattle.std.proofs.Math.Seq.{get_or-append_seam}
 use Rattle.std.proofs.lemmas.List.{reverse-append}
+use Rattle.std.proofs.lemmas.List.Concat.{flat_map-append}
+use Rattle.std.proofs.lemmas.List.Elements.{All-head, All-tail, All-push}
+use Rattle.srs_check.specs.Stacks.{KeepsRoom}
 use Rattle.std.specs.declared.option.Option.{Option}
 use Rattle.std.specs.declared.option.Option.TheVariants.{Some, None}
 
@@ -15,3 +18,25 @@ pub taken : {X : Type 0} (next after : Option X) (old new : List (Option X)) (no
     → MatchOption o (now ≡ []) (λ x. now ≡ x ∷ (option_to_list after ++ flat_map option_to_list (reverse new)))
 taken next after old new now (Some x) view none gone is all = rw (sym view, none, gone, is, reverse-append new (Some x ∷ [])) refl
 taken next after old new now None view none gone is all = let last : IsSome (get_or (new ++ None ∷ []) (length new) None) = subst (All IsSome) is all (length new) None (omega (arith, length-append new (None ∷ []))) in absurd (no_some (get_or (new ++ None ∷ []) (length new) None) (get_or-append_seam new None [] None) last)
+
+one_place : {X : Type 0} (o : Option X) → IsSome o → length (flat_map option_to_list (o ∷ [])) ≡ 1
+one_place (Some x) some = refl
+one_place None some = absurd (no_some None refl some)
+
+-- a stack in which each place has a cell has as many cells as places
+pub stack_size : {X : Type 0} (places : List (Option X)) → All IsSome places → length (flat_map option_to_list (reverse places)) ≡ length places
+stack_size [] all = refl
+stack_size (o ∷ os) all =
+    let more = stack_size os (All-tail IsSome o os all) in
+    let one = one_place o (All-head IsSome o os all) in
+    let turned : reverse (o ∷ os) ≡ reverse os ++ o ∷ [] = reverse-append (o ∷ []) os in
+    let parts = ap length (ap (flat_map option_to_list) turned ∙ flat_map-append option_to_list (reverse os) (o ∷ [])) in
+    omega (arith, parts, length-append (flat_map option_to_list (reverse os)) (flat_map option_to_list (o ∷ [])), more, one)
+
+-- a cell more, where there is room
+pub room_push : {X : Type 0} (old new : List (Option X)) (was is : ℕ) (x : X) → KeepsRoom old was → length old < 48 → new ≡ old ++ Some x ∷ [] → is ≡ was → KeepsRoom new is
+room_push old new was is x k few e same = record {
+  cells = subst (All IsSome) (sym e) (All-push IsSome old (Some x) k.cells refl);
+  few = omega (arith, ap length e, length-append old (Some x ∷ []), few);
+  room = same ∙ k.room;
+}

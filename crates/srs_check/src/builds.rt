@@ -45,7 +45,7 @@ pub fn build(alloc: Global, c: &Cert) -> Result<Built, NoMemory>
             return Ok(Built::Bad(c.line(i), fault));
         }
         if let Some((ge, lt)) = enter(alloc, &mut version, event, &next.cell)? {
-            waiting.divide(ge, lt)?;
+            waiting.divide(ge, lt);
         }
     }
     Ok(Built::Valid(version, count_nodes(c)))

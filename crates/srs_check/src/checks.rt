@@ -65,7 +65,7 @@ fn first_fault(alloc: Global, c: &Cert, root: Cell) -> Result<Option<(u32, Fault
         };
         match test_node(alloc, c, &rows, i, &cell)? {
             Tested::Leaf => {}
-            Tested::Divided(ge, lt) => waiting.divide(ge, lt)?,
+            Tested::Divided(ge, lt) => waiting.divide(ge, lt),
             Tested::Wrong(fault) => return Ok(Some((i, fault))),
         }
     }

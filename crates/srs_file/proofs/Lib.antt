@@ -15,5 +15,13 @@ pub mod QuestionTexts
 pub mod QuestionRuns
 pub mod AskTexts
 pub mod AskLaws
+pub mod OutlineLaws
+pub mod OutlineTexts
 pub mod PolygonLaws
 pub mod PolygonTexts
+pub mod RingDecided
+pub mod OutlineDecided
+pub mod PolygonDecided
+pub mod TreeDecided
+pub mod CertDecided
+pub mod AskDecided

@@ -53,6 +53,11 @@ ReadsAsAsk text c queries = (last : AskReader) × IsRead AskSteps AskEnds ask_st
 abbrev pub FirstAskSlip : List ℕ → ℕ → Slip → Type 0
 FirstAskSlip text line slip = SlipsAt AskSteps AskSlips AskEnds ask_start text line slip
 
+-- the text is a certificate with questions, or has a first slip
+abbrev pub IsAskOrSlips : List ℕ → Type 0
+IsAskOrSlips text =
+    ((c : CertView) × (queries : List Query) × SpellsAsk text c queries) ⊎ ((line : ℕ) × (slip : Slip) × FirstAskSlip text line slip)
+
 -- the first slip of the text, or want of memory
 abbrev pub IsAskRefusal : List ℕ → FileErr → Type 0
 IsAskRefusal text error = IsRefused AskSteps AskSlips AskEnds ask_start text error

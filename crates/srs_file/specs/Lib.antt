@@ -1,6 +1,7 @@
 pub mod Questions
 pub mod Grammar
 pub mod Ring
+pub mod Outline
 pub mod PolygonReading
 pub mod Leaf
 pub mod TreeReading

@@ -75,10 +75,7 @@ impl Leaf {
         ensures ok { OnOk result (TakesEntry self.old line.now self.new) }
         ensures err { IfErr result (IsSlip (SlipsEntry self.old line.now)) }
     {
-        let (pair, rank) = match entry(line) {
-            Ok(entry) => entry,
-            Err(slip) => return Err(LineErr::Slip(slip, 0)),
-        };
+        let (pair, rank) = entry(line)?;
         if !self.precedes(&pair) {
             return Err(LineErr::Slip(Slip::Order, 0));
         }
@@ -143,10 +140,7 @@ fn entry(line: &[u8]) -> Result<(V2, i64), Slip>
     ensures ok { IfOk result (λ r. SaysEntry r.0 r.1 line.now) }
     ensures err { IfErr result (IsEntrySlip line.now) }
 {
-    let (pair, rank) = match said_entry(line) {
-        Ok(entry) => entry,
-        Err(slip) => return Err(slip),
-    };
+    let (pair, rank) = said_entry(line)?;
     if !is_entry(&pair, rank) {
         return Err(Slip::Range);
     }
@@ -158,10 +152,8 @@ fn said_entry(line: &[u8]) -> Result<(V2, i64), Slip>
     ensures ok { IfOk result (λ r. Says (codes "w") (r.0.a ∷ r.0.b ∷ r.1 ∷ []) line.now) }
     ensures err { IfErr result (IsFieldSlip (codes "w") 3 line.now) }
 {
-    match three(line, b"w") {
-        Ok((a, b, rank)) => Ok((V2 { a, b }, rank)),
-        Err(slip) => Err(slip),
-    }
+    let (a, b, rank) = three(line, b"w")?;
+    Ok((V2 { a, b }, rank))
 }
 
 fn is_entry(pair: &V2, rank: i64) -> bool

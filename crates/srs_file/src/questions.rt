@@ -68,10 +68,7 @@ impl Questions {
         ensures ok { OnOk result (StepsVertex self.old line.now self.new) }
         ensures err { IfErr result (IsSlip (SlipsVertex self.old.ring line.now)) }
     {
-        match self.ring.take(line) {
-            Ok(()) => {}
-            Err(e) => return Err(e),
-        }
+        self.ring.take(line)?;
         if self.ring.wants_more() {
             return Ok(());
         }
@@ -87,40 +84,30 @@ impl Questions {
         let Some(region) = self.ring.close() else {
             unreachable!();
         };
-        match inhabited(self.ring.alloc(), region) {
-            Ok(cell) => self.ask(Query::Polygon(cell)),
-            Err(_) => Err(LineErr::NoMemory),
-        }
+        let cell = inhabited(self.ring.alloc(), region)?;
+        self.ask(Query::Polygon(cell))
     }
 
     fn point(&mut self, line: &[u8]) -> Result<(), LineErr>
         ensures ok { OnOk result (StepsPoint self.old line.now self.new) }
         ensures err { IfErr result (IsSlip (λ slip back. IsPlaceSlip line.now slip × (back ≡ 0))) }
     {
-        match place(line) {
-            Ok(r) => self.ask(Query::Point(r)),
-            Err(slip) => Err(LineErr::Slip(slip, 0)),
-        }
+        self.ask(Query::Point(place(line)?))
     }
 
     fn region(&mut self, line: &[u8]) -> Result<(), LineErr>
         ensures ok { OnOk result (StepsRegion self.old line.now self.new) }
         ensures err { IfErr result (IsSlip (λ slip back. IsOpenSlip (codes "region") line.now slip × (back ≡ 0))) }
     {
-        match self.ring.open(b"region", line) {
-            Ok(()) => Ok(()),
-            Err(slip) => Err(LineErr::Slip(slip, 0)),
-        }
+        Ok(self.ring.open(b"region", line)?)
     }
 
     fn orbit(&mut self, line: &[u8]) -> Result<(), LineErr>
         ensures ok { OnOk result (StepsOrbit self.old line.now self.new) }
         ensures err { IfErr result (IsSlip (λ slip back. IsOrbitSlip line.now slip × (back ≡ 0))) }
     {
-        match orbit(line) {
-            Ok((r, pair, steps)) => self.ask(Query::Orbit(r, pair, steps)),
-            Err(slip) => Err(LineErr::Slip(slip, 0)),
-        }
+        let (r, pair, steps) = orbit(line)?;
+        self.ask(Query::Orbit(r, pair, steps))
     }
 
     // Puts the question at the end.
@@ -129,10 +116,12 @@ impl Questions {
         ensures ok { OnOk result (Asks self.old query self.new) }
         ensures err { IfErr result (IsSlip (λ slip back. ⊥)) }
     {
-        match self.queries.push(query) {
-            Ok(()) => Ok(()),
-            Err(_) => Err(LineErr::NoMemory),
-        }
+        // Each question so far is askable.
+        let _ = self.queries.len();
+        let Ok(()) = self.queries.push(query) else {
+            return Err(LineErr::NoMemory);
+        };
+        Ok(())
     }
 }
 
@@ -141,10 +130,7 @@ fn place(line: &[u8]) -> Result<Pt, Slip>
     ensures ok { IfOk result (λ r. SaysPlace r line.now) }
     ensures err { IfErr result (IsPlaceSlip line.now) }
 {
-    let said = match three(line, b"point") {
-        Ok(said) => said,
-        Err(slip) => return Err(slip),
-    };
+    let said = three(line, b"point")?;
     match Pt::new(said.0, said.1, said.2) {
         Some(r) => Ok(r),
         None => Err(Slip::Range),
@@ -156,10 +142,7 @@ fn orbit(line: &[u8]) -> Result<(Pt, V2, u32), Slip>
     ensures ok { IfOk result (λ o. SaysOrbit o.0 o.1 o.2 line.now) }
     ensures err { IfErr result (IsOrbitSlip line.now) }
 {
-    let said = match six(line, b"orbit") {
-        Ok(said) => said,
-        Err(slip) => return Err(slip),
-    };
+    let said = six(line, b"orbit")?;
     match orbit_of(&said) {
         Some(orbit) => Ok(orbit),
         None => Err(Slip::Range),

@@ -17,10 +17,7 @@ pub(crate) fn vertex(line: &[u8]) -> Result<Vertex, Slip>
     let Some(kind) = kind_of(line) else {
         return Err(Slip::Word);
     };
-    let vertex = match corner(line, kind) {
-        Ok(vertex) => vertex,
-        Err(slip) => return Err(slip),
-    };
+    let vertex = corner(line, kind)?;
     if !vertex.is_placed() {
         return Err(Slip::Range);
     }
@@ -47,8 +44,6 @@ fn corner(line: &[u8], kind: Kind) -> Result<Vertex, Slip>
     ensures ok { IfOk result (λ v. Says (kind_word kind) (v.p ∷ v.q ∷ v.d ∷ []) line.now) }
     ensures err { IfErr result (IsFieldSlip (kind_word kind) 3 line.now) }
 {
-    match three(line, word_of(kind)) {
-        Ok((p, q, d)) => Ok(Vertex { p, q, d, kind }),
-        Err(slip) => Err(slip),
-    }
+    let (p, q, d) = three(line, word_of(kind))?;
+    Ok(Vertex { p, q, d, kind })
 }

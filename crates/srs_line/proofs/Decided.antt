@@ -203,7 +203,7 @@ six_decided word line =
     ]
 
 -- a whole number that is not below 0 is a natural number
-natural : (z : ℤ) → ((n : ℕ) × (z ≡ pos n)) ⊎ ((n : ℕ) → z ≡ pos n → ⊥)
+pub natural : (z : ℤ) → ((n : ℕ) × (z ≡ pos n)) ⊎ ((n : ℕ) → z ≡ pos n → ⊥)
 natural (pos n) = inl (n, refl)
 natural (negsuc n) = inr (λ m e. absurd (cc))
 
