@@ -2,3 +2,4 @@ pub mod Texts
 pub mod Certificates
 pub mod Heights
 pub mod Sayings
+pub mod Lives

@@ -123,7 +123,7 @@ module _ (c : CertView) (is : IsCertificate c) (i : ℕ) (w : WaitingCell) (rest
   pub few_behind : (x y : WaitingCell) (u : Snapshot) → cells_from (Some (x, y)) ≡ map (cell_in u) (parts_by e.path (as_built e.outcome)) → length rest < 48
   few_behind x y u parts =
       let cut = cut_by_parts e.path e.outcome x y u parts in
-      omega (arith, few_wait c i w.region (regions_of rest) s.walk e at is cut.0 cut.1, length-map (λ (q : WaitingCell). q.region) rest)
+      omega (arith, few_wait c i w.region (regions_of rest) s.walk e at is cut.0 cut.1, length-map rest (λ (q : WaitingCell). q.region))
 
   module _ (proves : Proves w.region c.limits c.events (length e.path) e.outcome) (sound : IsProvedOf w.region e.outcome) where
     abbrev after : Snapshot

@@ -125,7 +125,7 @@ module _ (c : CertView) (i : ℕ) (R : Area) (rest : List Area) (s : WalkState c
   few_wait is h q =
       let keeps = subst (λ (x : Entry). AllowsAt c.limits (length x.path) x.outcome) (get_or_from_slice_get c.events i e e at) (is.within.each i e (slice_get_within c.events i e at)) in
       let high : length e.path < c.limits.depth = subst (λ (o : Outcome). AllowsAt c.limits (length e.path) o) q keeps in
-      omega (arith, ap length rest_is, length-map (cell_at c) t.rest, stacked_here.0, high, is.limits_are.depth)
+      omega (arith, ap length rest_is, length-map t.rest (cell_at c), stacked_here.0, high, is.limits_are.depth)
 
   pub walk_good : Proves R c.limits c.events (length e.path) e.outcome → IsProvedOf R e.outcome → IsGood c e
   walk_good proves sound = record {

@@ -1,5 +1,6 @@
 // The cells of the nodes that are still to come.
 ghost use Rattle.std.specs.Prelude.{◌≡◌, ◌<◌, [], ◌∷◌, ◌++◌, Some, length, MatchOption};
+ghost use Rattle.srs_check.specs.Stacks.{KeepsRoom, IsPushed};
 
 use smallvec::SmallVec;
 use std::alloc::Global;
@@ -56,9 +57,16 @@ impl<T: Drop> Waiting<T> {
         ensures { self.new ≡ ge ∷ lt ∷ self.old }
     {
         if let Some(cell) = self.next.take() {
-            self.later.push_reserved(Some(cell));
+            push(&mut self.later, cell);
         }
-        self.later.push_reserved(Some(lt));
+        push(&mut self.later, lt);
         self.next = Some(ge);
     }
+}
+
+// One cell more, where there is room.
+fn push<T: Drop>(cells: &mut SmallVec<Option<T>, 48>, cell: T)
+    ensures { KeepsRoom cells.old.items cells.old.capacity → length cells.old.items < 48 → IsPushed cells.old.items cells.new.items cells.new.capacity cell }
+{
+    let _ = cells.push(Some(cell));
 }

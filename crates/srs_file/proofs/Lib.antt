@@ -25,3 +25,5 @@ pub mod PolygonDecided
 pub mod TreeDecided
 pub mod CertDecided
 pub mod AskDecided
+pub mod LiveTexts
+pub mod LiveLaws

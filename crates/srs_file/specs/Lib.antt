@@ -3,6 +3,7 @@ pub mod Grammar
 pub mod Ring
 pub mod Outline
 pub mod PolygonReading
+pub mod LiveReading
 pub mod Leaf
 pub mod TreeReading
 pub mod CertReading

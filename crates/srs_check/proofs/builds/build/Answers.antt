@@ -1,4 +1,4 @@
-use Rattle.std.proofs.Common.{◌≡◌, ◌+◌, ◌∷◌, ◌++◌, List, length, slice_get, Some, refl, sym, ap, subst, ◌∙◌, arith}
+use Rattle.std.proofs.Common.{◌≡◌, ◌+◌, ◌∷◌, ◌++◌, List, length, slice_get, Some, refl, sym, ap, subst, ◌∙◌, arith, lit<}
 use Rattle.std.specs.FinMap as finite
 use Rattle.std.specs.declared.option.Option.{Option}
 use Rattle.srs_plane.specs.Regions.{Area}
@@ -63,7 +63,7 @@ divide-requires c =
     let s : GrownTo c.args.c.now c.loop-i.i (c.in-Some.next ∷ c.take.new.self) c.loop-i.version = subst (λ (xs : List WaitingCell). GrownTo c.args.c.now c.loop-i.i xs c.loop-i.version) c.in-Some.ensures c.loop-i.invariant in
     let at : slice_get c.args.c.now.events c.loop-i.i ≡ Some c.get-event.result.now = same_get c.events.result.now c.args.c.now.events c.loop-i.i c.get-event.result.now c.events.ensures.events c.get-event.ensures in
     let parts = ap (λ (o : Option (WaitingCell × WaitingCell)). cells_from o) (sym c.in-Some-2.is) ∙ c.in_ok-ge.ensures.parts in
-    few_behind c.args.c.now c.node_count-nodes.ensures.certificate c.loop-i.i c.in-Some.next c.take.new.self c.loop-i.version s c.get-event.result.now at c.in-Some-2.ge c.in-Some-2.lt c.enter.new.version parts
+    (lit< tt, few_behind c.args.c.now c.node_count-nodes.ensures.certificate c.loop-i.i c.in-Some.next c.take.new.self c.loop-i.version s c.get-event.result.now at c.in-Some-2.ge c.in-Some-2.lt c.enter.new.version parts)
 
 pub loop-i-preserved : goal.loop-i-preserved
 loop-i-preserved c =

@@ -1,4 +1,4 @@
-use Rattle.std.proofs.Common.{◌≡◌, ◌+◌, ◌∷◌, sym, subst, ◌∙◌, arith}
+use Rattle.std.proofs.Common.{◌≡◌, ◌+◌, ◌∷◌, sym, subst, ◌∙◌, arith, lit<}
 use Rattle.srs_check.proofs.Excluded.{not_proved}
 use Rattle.srs_check.proofs.WholeProved.{whole_proved}
 use Rattle.srs_check.proofs.WalkStates.{WalkState, walk_first, some_cell, few_here, few_after, after_leaf, after_cut, after_fault, walk_proves, walk_certifies}
@@ -49,5 +49,5 @@ returns-clause-certified c = walk_certifies c.args.c.now c.loop-i.i c.loop-i.wai
 pub divide-requires : goal.divide-requires
 divide-requires c =
     let s : WalkState c.args.c.now c.loop-i.i (c.in-Some.cell ∷ c.take.new.self) = subst (WalkState c.args.c.now c.loop-i.i) c.in-Some.ensures c.loop-i.invariant in
-    few_after c.args.c.now c.loop-i.i (omega arith) c.in-Some.cell c.take.new.self s c.in_ok-test_node.field-0 c.in_ok-test_node.ensures
-    c.node_count-i-end.ensures.certificate c.in-Divided.ge c.in-Divided.lt c.in-Divided.is
+    (lit< tt, few_after c.args.c.now c.loop-i.i (omega arith) c.in-Some.cell c.take.new.self s c.in_ok-test_node.field-0 c.in_ok-test_node.ensures
+    c.node_count-i-end.ensures.certificate c.in-Divided.ge c.in-Divided.lt c.in-Divided.is)
