@@ -1,6 +1,7 @@
 -- Each text is a certificate with questions, or has a first slip.
-use Rattle.std.proofs.Common.{◌≡◌, ◌⊎◌, ◌≤◌, ◌<◌, ◌^◌, ◌++◌, true, ℕ, ℤ, pos, ◌≤ℤ◌, List, [], ◌∷◌, codes, refl, inl, inr, arith}
+use Rattle.std.proofs.Common.{◌≡◌, ◌⊎◌, ◌≤◌, ◌<◌, ◌++◌, true, ℕ, ℤ, pos, ◌≤ℤ◌, List, [], ◌∷◌, codes, refl, inl, inr, arith}
 use Rattle.srs_num.specs.declared.pairs.V2.{V2}
+use Rattle.srs_num.specs.declared.points.TheConstants.{MOST_DENOMINATOR, MOST_NUMERATOR}
 use Rattle.srs_num.specs.Points.{Point as Place, IsPtSized, IsPoint, IsWithin, IsNear}
 use Rattle.srs_map.specs.Step.{IsNarrow}
 use Rattle.srs_plane.specs.Polygons.{region_of}
@@ -24,11 +25,11 @@ use Rattle.srs_file.proofs.CertDecided.{Keeps, keeps_step, cert_ends, cert_goes}
 
 sized_decided : (r : Place) → Decided (IsPtSized r)
 sized_decided r =
-    same_decided ((IsPoint r × IsWithin (2 ^ 40) r.d) × (IsWithin (2 ^ 42) r.p × IsWithin (2 ^ 42) r.q)) (IsPtSized r)
+    same_decided ((IsPoint r × IsWithin MOST_DENOMINATOR r.d) × (IsWithin MOST_NUMERATOR r.p × IsWithin MOST_NUMERATOR r.q)) (IsPtSized r)
     (λ s. record { is_point = s.0.0; d_range = s.0.1; p_range = s.1.0; q_range = s.1.1 }) (λ s. ((s.is_point, s.d_range), (s.p_range, s.q_range)))
-    (both_decided (IsPoint r × IsWithin (2 ^ 40) r.d) (IsWithin (2 ^ 42) r.p × IsWithin (2 ^ 42) r.q)
-      (both_decided (IsPoint r) (IsWithin (2 ^ 40) r.d) (int_le_decided (pos 1) r.d) (within_decided (2 ^ 40) r.d))
-      (both_decided (IsWithin (2 ^ 42) r.p) (IsWithin (2 ^ 42) r.q) (within_decided (2 ^ 42) r.p) (within_decided (2 ^ 42) r.q)))
+    (both_decided (IsPoint r × IsWithin MOST_DENOMINATOR r.d) (IsWithin MOST_NUMERATOR r.p × IsWithin MOST_NUMERATOR r.q)
+      (both_decided (IsPoint r) (IsWithin MOST_DENOMINATOR r.d) (int_le_decided (pos 1) r.d) (within_decided MOST_DENOMINATOR r.d))
+      (both_decided (IsWithin MOST_NUMERATOR r.p) (IsWithin MOST_NUMERATOR r.q) (within_decided MOST_NUMERATOR r.p) (within_decided MOST_NUMERATOR r.q)))
 
 place_decided : (line : List ℕ) → ((r : Place) × SaysPlace r line) ⊎ ((slip : Slip) × IsPlaceSlip line slip)
 place_decided line =

@@ -1,5 +1,6 @@
 -- Each text is that of a certificate, or has a first slip.
-use Rattle.std.proofs.Common.{◌≡◌, ◌≢◌, ◌⊎◌, ◌≤◌, ◌*◌, ◌^◌, ℕ, ℤ, pos, List, [], ◌∷◌, codes, refl, sym, ◌∙◌, inl, inr}
+use Rattle.std.proofs.Common.{◌≡◌, ◌≢◌, ◌⊎◌, ◌≤◌, ◌*◌, ℕ, ℤ, pos, List, [], ◌∷◌, codes, refl, sym, ◌∙◌, inl, inr}
+use Rattle.srs_path.specs.declared.limits.TheConstants.{MOST_DEPTH, MOST_CELLS, MOST_WITNESSES, MOST_PRODUCT}
 use Rattle.srs_path.specs.Views.{Budget, IsBudget}
 use Rattle.srs_line.specs.declared.slip.Slip.{Slip}
 use Rattle.srs_line.specs.declared.slip.Slip.TheVariants.{Word, Version, Range}
@@ -53,16 +54,16 @@ first_decided s line =
 
 budget_decided : (b : Budget) → Decided (IsBudget b)
 budget_decided b =
-    let depth = b.depth ≤ 48 in
-    let cells = (1 ≤ b.cells) × (b.cells ≤ 65536) in
-    let wits = (1 ≤ b.wits) × (b.wits ≤ 16384) in
-    let product = b.wits * b.cells ≤ 2 ^ 22 in
+    let depth = b.depth ≤ MOST_DEPTH in
+    let cells = (1 ≤ b.cells) × (b.cells ≤ MOST_CELLS) in
+    let wits = (1 ≤ b.wits) × (b.wits ≤ MOST_WITNESSES) in
+    let product = b.wits * b.cells ≤ MOST_PRODUCT in
     same_decided ((depth × cells) × (wits × product)) (IsBudget b)
     (λ p. record { depth = p.0.0; some_cell = p.0.1.0; cells = p.0.1.1; some_wit = p.1.0.0; wits = p.1.0.1; product = p.1.1 })
     (λ p. ((p.depth, (p.some_cell, p.cells)), ((p.some_wit, p.wits), p.product)))
     (both_decided (depth × cells) (wits × product)
-      (both_decided depth cells (le_decided b.depth 48) (both_decided (1 ≤ b.cells) (b.cells ≤ 65536) (le_decided 1 b.cells) (le_decided b.cells 65536)))
-      (both_decided wits product (both_decided (1 ≤ b.wits) (b.wits ≤ 16384) (le_decided 1 b.wits) (le_decided b.wits 16384)) (le_decided (b.wits * b.cells) (2 ^ 22))))
+      (both_decided depth cells (le_decided b.depth MOST_DEPTH) (both_decided (1 ≤ b.cells) (b.cells ≤ MOST_CELLS) (le_decided 1 b.cells) (le_decided b.cells MOST_CELLS)))
+      (both_decided wits product (both_decided (1 ≤ b.wits) (b.wits ≤ MOST_WITNESSES) (le_decided 1 b.wits) (le_decided b.wits MOST_WITNESSES)) (le_decided (b.wits * b.cells) MOST_PRODUCT)))
 
 -- three numbers are limits, or none
 abbrev Limiting : ℤ → ℤ → ℤ → Type 0

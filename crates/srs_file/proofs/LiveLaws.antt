@@ -1,7 +1,7 @@
 -- The text of a live run is that of one history and one certificate.
-use Rattle.std.proofs.Common.{◌≡◌, ◌≢◌, ◌≤◌, ◌<◌, ◌++◌, ℕ, suc, pos, Bool, true, false, cond, List, [], ◌∷◌, map, length, length-append, flat_map, codes, All, Some, refl, sym, ap, ap₂, ◌∙◌, arith, append_assoc, append-nil}
+use Rattle.std.proofs.Common.{◌≡◌, ◌≢◌, ◌≤◌, ◌<◌, ◌++◌, ℕ, suc, pos, Bool, true, false, cond, List, [], ◌∷◌, map, length, length-append, flat_map, codes, All, Some, rules, refl, sym, ap, ap₂, subst, ◌∙◌, arith, append_assoc, append-nil}
 use Rattle.std.specs.Prelude.{Contains}
-use Rattle.std.specs.Ordering.{slice_cmp}
+use Rattle.std.specs.Cmp.Lexicographic.{slice_cmp}
 use Rattle.std.specs.FinMap as finite
 use Rattle.std.specs.declared.option.Option.{Option}
 use Rattle.std.proofs.lemmas.List.{length-map}
@@ -265,5 +265,5 @@ live_text_is_one one vs ws a b G H text lg lh t u =
     (
       ap (λ (c : CertView). c.vertices) certs,
       ap (λ (c : CertView). c.limits) certs,
-      history_once T G H (has vs a G text lg t) (rw (← certs) at (has ws b H text lh u)) lines,
+      history_once T G H (has vs a G text lg t) (subst (λ (c : CertView). Has (outcome_at c.events) H) (sym certs) (has ws b H text lh u)) lines,
     )

@@ -9,8 +9,9 @@ use Rattle.srs_plane.specs.declared.halves.Kind.{Kind}
 use Rattle.srs_plane.specs.declared.halves.Kind.TheVariants.{Ge, Gt}
 use Rattle.srs_plane.specs.declared.polygons.Vertex.{Vertex}
 use Rattle.srs_plane.specs.declared.polygons.PolyErr.TheVariants as polygons
+use Rattle.srs_plane.specs.declared.polygons.TheConstants.{MOST_VERTEX_DENOMINATOR}
 use Rattle.srs_plane.specs.Placed.{IsPlaced}
-use Rattle.srs_plane.specs.Polygons.{point_of, vertex_at, edge_at, IsShallow, IsOffEdge, TurnsLeft, TurnsWrong, IsCounted, IsPolygon, IsPolygonErr, region_of}
+use Rattle.srs_plane.specs.Polygons.{point_of, vertex_at, edge_at, HasSmallDenominator, IsOffEdge, TurnsLeft, TurnsWrong, IsCounted, IsPolygon, IsPolygonErr, region_of}
 use Rattle.srs_plane.proofs.Ring_of_vertices.{vertex_at-within}
 use Rattle.srs_line.specs.declared.slip.Slip.{Slip}
 use Rattle.srs_line.specs.declared.slip.Slip.TheVariants.{Word, Range, Turn}
@@ -38,10 +39,10 @@ near_decided r =
 
 placed_decided : (v : Vertex) → Decided (IsPlaced v)
 placed_decided v =
-    same_decided ((pos 1 ≤ℤ v.d × (v.d ≤ℤ pos 65536)) × IsNear (point_of v)) (IsPlaced v)
-    (λ p. record { shallow = record { d_low = p.0.0; d_high = p.0.1 }; near = p.1 }) (λ p. ((p.shallow.d_low, p.shallow.d_high), p.near))
-    (both_decided (pos 1 ≤ℤ v.d × (v.d ≤ℤ pos 65536)) (IsNear (point_of v))
-      (both_decided (pos 1 ≤ℤ v.d) (v.d ≤ℤ pos 65536) (int_le_decided (pos 1) v.d) (int_le_decided v.d (pos 65536)))
+    same_decided ((pos 1 ≤ℤ v.d × (v.d ≤ℤ MOST_VERTEX_DENOMINATOR)) × IsNear (point_of v)) (IsPlaced v)
+    (λ p. record { small = record { d_low = p.0.0; d_high = p.0.1 }; near = p.1 }) (λ p. ((p.small.d_low, p.small.d_high), p.near))
+    (both_decided (pos 1 ≤ℤ v.d × (v.d ≤ℤ MOST_VERTEX_DENOMINATOR)) (IsNear (point_of v))
+      (both_decided (pos 1 ≤ℤ v.d) (v.d ≤ℤ MOST_VERTEX_DENOMINATOR) (int_le_decided (pos 1) v.d) (int_le_decided v.d MOST_VERTEX_DENOMINATOR))
       (near_decided (point_of v)))
 
 -- no kind's word begins the line
@@ -132,11 +133,11 @@ first_turn vs (suc n) =
 polygon_decided : (vs : List Vertex) → IsCounted vs → All IsPlaced vs → IsPolygon vs ⊎ ((i : ℕ) × IsPolygonErr vs (polygons.Turn i))
 polygon_decided vs counted placed =
     let each : (k : ℕ) → k < length vs → IsPlaced (vertex_at vs k) = λ k lt. rw (vertex_at-within vs k (vertex_at vs k) lt) at (placed k (vertex_at vs k) lt) in
-    let shallow : (k : ℕ) → k < length vs → IsShallow (vertex_at vs k) = λ k lt. (each k lt).shallow in
+    let small : (k : ℕ) → k < length vs → HasSmallDenominator (vertex_at vs k) = λ k lt. (each k lt).small in
     let near : (k : ℕ) → k < length vs → IsNear (point_of (vertex_at vs k)) = λ k lt. (each k lt).near in
     elim (first_turn vs (length vs)) [
-      | inl left ↦ inl (record { counted = counted; shallow = shallow; near = near; left = left })
-      | inr first ↦ inr (first.0, (counted, shallow, near, first.1, first.2, first.3))
+      | inl left ↦ inl (record { counted = counted; small = small; near = near; left = left })
+      | inr first ↦ inr (first.0, (counted, small, near, first.1, first.2, first.3))
     ]
 
 -- what a good line of a ring makes, or its slip

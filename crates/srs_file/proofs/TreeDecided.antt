@@ -1,10 +1,13 @@
 -- A line of a tree goes on, or has a slip.
-use Rattle.std.proofs.Common.{◌≡◌, ◌≢◌, ◌⊎◌, ◌≤◌, ◌<◌, ◌+◌, ◌-◌, ◌^◌, ◌++◌, All, ℕ, ℤ, pos, negsuc, ◌≤ℤ◌, ◌<ℤ◌, List, [], ◌∷◌, length, codes, refl, sym, ap, ◌∙◌, inl, inr, arith, length-append}
+use Rattle.std.proofs.Common.{◌≡◌, ◌≢◌, ◌⊎◌, ◌≤◌, ◌<◌, ◌+◌, ◌-◌, ◌++◌, All, ℕ, ℤ, pos, negsuc, ◌≤ℤ◌, ◌<ℤ◌, List, [], ◌∷◌, length, codes, refl, sym, ap, ◌∙◌, inl, inr, arith, length-append}
 use Rattle.std.specs.Int.Signed.{clash_ℤ}
 use Rattle.std.proofs.lemmas.Int.{ints, by_lt_z}
 use Rattle.std.proofs.lemmas.List.Elements.{All-nil, All-cons, All-head, All-tail}
 use Rattle.srs_num.specs.declared.pairs.V2.{V2}
 use Rattle.srs_num.specs.Points.{LinearForm, IsFormSized, IsWithin}
+use Rattle.srs_num.specs.declared.forms.TheConstants.{MOST_COEFFICIENT}
+use Rattle.srs_map.specs.declared.steps.TheConstants.{MOST_ENTRY}
+use Rattle.srs_path.specs.declared.limits.TheConstants.{MOST_WITNESSES}
 use Rattle.srs_map.specs.Step.{pair, origin, IsNarrow}
 use Rattle.srs_path.specs.declared.paths.Side.{Side}
 use Rattle.srs_path.specs.declared.paths.Side.TheVariants.{Ge, Lt}
@@ -45,12 +48,12 @@ int_eq_decided x y =
     (λ ge. by_lt_z y x (λ lt. inr (λ e. clash_ℤ lt (rw e (int_refl y)))) (λ le. inl (int_same x y le ge)))
 
 pub narrow_decided : (w : V2) → Decided (IsNarrow w)
-narrow_decided w = both_decided (IsWithin (2 ^ 37) w.a) (IsWithin (2 ^ 37) w.b) (within_decided (2 ^ 37) w.a) (within_decided (2 ^ 37) w.b)
+narrow_decided w = both_decided (IsWithin MOST_ENTRY w.a) (IsWithin MOST_ENTRY w.b) (within_decided MOST_ENTRY w.a) (within_decided MOST_ENTRY w.b)
 
 entry_in_range : (w : V2) (z : ℤ) → Decided (IsEntry w z)
 entry_in_range w z =
-    same_decided (IsNarrow w × ((pos 0 ≤ℤ z) × (z ≤ℤ pos 16384))) (IsEntry w z) (λ p. (p.0, p.1.0, p.1.1)) (λ p. (p.0, (p.1, p.2)))
-    (both_decided (IsNarrow w) ((pos 0 ≤ℤ z) × (z ≤ℤ pos 16384)) (narrow_decided w) (both_decided (pos 0 ≤ℤ z) (z ≤ℤ pos 16384) (int_le_decided (pos 0) z) (int_le_decided z (pos 16384))))
+    same_decided (IsNarrow w × ((pos 0 ≤ℤ z) × (z ≤ℤ pos MOST_WITNESSES))) (IsEntry w z) (λ p. (p.0, p.1.0, p.1.1)) (λ p. (p.0, (p.1, p.2)))
+    (both_decided (IsNarrow w) ((pos 0 ≤ℤ z) × (z ≤ℤ pos MOST_WITNESSES)) (narrow_decided w) (both_decided (pos 0 ≤ℤ z) (z ≤ℤ pos MOST_WITNESSES) (int_le_decided (pos 0) z) (int_le_decided z (pos MOST_WITNESSES))))
 
 precedes_decided : (v w : V2) → Decided (Precedes v w)
 precedes_decided v w =
@@ -122,11 +125,11 @@ node_line_decided s line next more =
 
 form_decided : (h : LinearForm) → Decided (IsFormSized h)
 form_decided h =
-    same_decided ((IsWithin (2 ^ 38) h.a × IsWithin (2 ^ 38) h.b) × IsWithin (2 ^ 38) h.c) (IsFormSized h)
+    same_decided ((IsWithin MOST_COEFFICIENT h.a × IsWithin MOST_COEFFICIENT h.b) × IsWithin MOST_COEFFICIENT h.c) (IsFormSized h)
     (λ f. record { a_range = f.0.0; b_range = f.0.1; c_range = f.1 }) (λ f. ((f.a_range, f.b_range), f.c_range))
-    (both_decided (IsWithin (2 ^ 38) h.a × IsWithin (2 ^ 38) h.b) (IsWithin (2 ^ 38) h.c)
-      (both_decided (IsWithin (2 ^ 38) h.a) (IsWithin (2 ^ 38) h.b) (within_decided (2 ^ 38) h.a) (within_decided (2 ^ 38) h.b))
-      (within_decided (2 ^ 38) h.c))
+    (both_decided (IsWithin MOST_COEFFICIENT h.a × IsWithin MOST_COEFFICIENT h.b) (IsWithin MOST_COEFFICIENT h.c)
+      (both_decided (IsWithin MOST_COEFFICIENT h.a) (IsWithin MOST_COEFFICIENT h.b) (within_decided MOST_COEFFICIENT h.a) (within_decided MOST_COEFFICIENT h.b))
+      (within_decided MOST_COEFFICIENT h.c))
 
 divide_decided : (s : Tree) (h : LinearForm) → Next s → Goes (Divides s h) (SlipsDivide s)
 divide_decided s h next =
@@ -193,11 +196,11 @@ not_decided P (inr p) = inl p
 cycle_decided : (c : List ℤ) → Decided (IsCycle c)
 cycle_decided c =
     let first = pair (entry_at c 0) (entry_at c 1) in
-    same_decided (((1 ≤ length c) × (length c ≤ 16384)) × (All (IsWithin (2 ^ 37)) c × (first ≢ origin))) (IsCycle c)
+    same_decided (((1 ≤ length c) × (length c ≤ MOST_WITNESSES)) × (All (IsWithin MOST_ENTRY) c × (first ≢ origin))) (IsCycle c)
     (λ i. record { some = i.0.0; short = i.0.1; narrow = i.1.0; not_zero = i.1.1 }) (λ i. ((i.some, i.short), (i.narrow, i.not_zero)))
-    (both_decided ((1 ≤ length c) × (length c ≤ 16384)) (All (IsWithin (2 ^ 37)) c × (first ≢ origin))
-      (both_decided (1 ≤ length c) (length c ≤ 16384) (le_decided 1 (length c)) (le_decided (length c) 16384))
-      (both_decided (All (IsWithin (2 ^ 37)) c) (first ≢ origin) (all_decided (IsWithin (2 ^ 37)) (within_decided (2 ^ 37)) c) (not_decided (first ≡ origin) (pair_decided first origin))))
+    (both_decided ((1 ≤ length c) × (length c ≤ MOST_WITNESSES)) (All (IsWithin MOST_ENTRY) c × (first ≢ origin))
+      (both_decided (1 ≤ length c) (length c ≤ MOST_WITNESSES) (le_decided 1 (length c)) (le_decided (length c) MOST_WITNESSES))
+      (both_decided (All (IsWithin MOST_ENTRY) c) (first ≢ origin) (all_decided (IsWithin MOST_ENTRY) (within_decided MOST_ENTRY) c) (not_decided (first ≡ origin) (pair_decided first origin))))
 
 out_decided : (s : Tree) (line : List ℕ) → Next s → Goes (StepsOut s line) (SlipsOut s line)
 out_decided s line next =

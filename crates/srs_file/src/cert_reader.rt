@@ -141,10 +141,10 @@ fn limits_of(depth: i64, cells: i64, wits: i64) -> Option<Limits>
     ensures some { IfSome result (λ b. (depth ≡ pos b.depth) × (cells ≡ pos b.cells) × (wits ≡ pos b.wits) × IsBudget b) }
     ensures none { IfNone result (AreNoLimits depth cells wits) }
 {
-    if depth < 0 || depth > 48 || cells < 0 || cells > 65536 || wits < 0 || wits > 16384 {
-        return None;
-    }
-    Limits::new(depth as u32, cells as u32, wits as u32)
+    let depth = u32::try_from(depth).ok()?;
+    let cells = u32::try_from(cells).ok()?;
+    let wits = u32::try_from(wits).ok()?;
+    Limits::new(depth, cells, wits)
 }
 
 /// The certificate that the text spells, or the first slip of the text, its lines counted from 1. The text is shorter than

@@ -13,7 +13,7 @@ ghost use Rattle.srs_file.specs.QuestionReading.{no_questions, Asks, SaysPlace, 
 use crate::Ring;
 use crate::polygon_reader::inhabited;
 use srs_line::{LineErr, Slip, has_word, six, three};
-use srs_map::is_narrow;
+use srs_map::{MOST_STEPS, is_narrow};
 use srs_num::{Pt, V2};
 use srs_tree::{Queries, Query};
 use std::alloc::Global;
@@ -149,8 +149,6 @@ fn orbit(line: &[u8]) -> Result<(Pt, V2, u32), Slip>
     }
 }
 
-const MOST_STEPS: i64 = 100000;
-
 // The six numbers as an orbit that may be asked about.
 fn orbit_of(said: &(i64, i64, i64, i64, i64, i64)) -> Option<(Pt, V2, u32)>
     ensures some { IfSome result (λ o. IsOrbitAsked o.0 o.1 o.2 × (said.now.0 ∷ said.now.1 ∷ said.now.2 ∷ said.now.3 ∷ said.now.4 ∷ said.now.5 ∷ [] ≡ orbit_numbers o.0 o.1 (pos o.2))) }
@@ -159,7 +157,7 @@ fn orbit_of(said: &(i64, i64, i64, i64, i64, i64)) -> Option<(Pt, V2, u32)>
     let (p, q, d, a, b, steps) = *said;
     let r = Pt::new(p, q, d)?;
     let pair = V2 { a, b };
-    if !r.near() || !is_narrow(pair) || steps < 0 || steps > MOST_STEPS {
+    if !r.near() || !is_narrow(pair) || steps < 0 || steps > i64::from(MOST_STEPS) {
         return None;
     }
     Some((r, pair, steps as u32))

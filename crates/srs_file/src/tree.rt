@@ -1,5 +1,6 @@
 // The tree of a certificate, read line by line.
 ghost use Rattle.std.specs.Prelude.{◌≡◌, ◌≢◌, ◌↔◌, ◌+◌, ◌<◌, ◌≤◌, ◌++◌, [], ◌∷◌, pos, ℤ, length, IsTrue, IfErr, IfSome, IfNone, OnOk, codes};
+ghost use Rattle.srs_path.specs.declared.limits.TheConstants.{MOST_DEPTH};
 ghost use Rattle.srs_path.specs.declared.paths.Side.TheVariants.{Ge as AtGe, Lt as AtLt};
 ghost use Rattle.srs_path.specs.declared.outcomes.Cause.{Cause};
 ghost use Rattle.srs_line.specs.Refusal.{IsSlip};
@@ -226,9 +227,9 @@ fn least_limits() -> Limits
     }
 }
 
-// The path with one side more, for a path of fewer than 48.
+// The path with one side more, for a path that has room for it.
 fn part(path: &Path, side: Side) -> Path
-    requires { length path.now < 48 }
+    requires { length path.now < MOST_DEPTH }
     ensures { result ≡ path.now ++ side ∷ [] }
 {
     match path.child(side) {
