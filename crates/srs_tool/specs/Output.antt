@@ -11,7 +11,7 @@ use Rattle.srs_tree.specs.Tree.{History, outcome_at, region_at, IsPartition}
 use Rattle.srs_tree.specs.Rounds.{IsPlan}
 use Rattle.srs_line.specs.declared.slip.Slip.{Slip}
 use Rattle.srs_line.specs.Refusal.{slip_word}
-use Rattle.srs_file.specs.Certificates.{CertView, IsTextOf}
+use Rattle.srs_cert.specs.Certificates.{CertView, IsTextOf}
 use Rattle.srs_file.specs.Grammar.{SpellsPolygon, SpellsCertificate, SpellsAsk}
 use Rattle.srs_file.specs.PolygonReading.{FirstSlip}
 use Rattle.srs_file.specs.CertReading.{FirstCertSlip}

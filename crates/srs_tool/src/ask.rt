@@ -6,7 +6,7 @@ ghost use Rattle.srs_tree.specs.Questions.{IsAskable};
 ghost use Rattle.srs_tree.specs.Tree.{outcome_at};
 ghost use Rattle.srs_tree.specs.Answers.{Answers, reply_of, reply_by};
 ghost use Rattle.srs_file.specs.Grammar.{SpellsAsk};
-ghost use Rattle.srs_file.specs.Sayings.{said_text};
+ghost use Rattle.srs_cert.specs.Sayings.{said_text};
 ghost use Rattle.srs_check.specs.Builds.{IsBuilt};
 ghost use Rattle.srs_tool.specs.declared.words.Command.TheVariants.{Ask};
 ghost use Rattle.srs_tool.specs.Replies.{IsReplyText, AddsReply, IsAsked, AreAsked};

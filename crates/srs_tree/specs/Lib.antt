@@ -10,3 +10,4 @@ pub mod WholeTrees
 pub mod Answers
 pub mod Clips
 pub mod Questions
+pub mod Sessions
