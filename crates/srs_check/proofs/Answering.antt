@@ -1,4 +1,4 @@
--- What holds of an answer where it is Err, of a place of an equal list, and of all elements after a push.
+-- What holds of an answer where it is Err, and of a place of an equal list.
 use Rattle.std.proofs.Common.{◌≡◌, ℕ, List, [], ◌∷◌, ◌++◌, slice_get, Some, sym, ap, subst, ◌∙◌}
 use Rattle.std.specs.Prelude.{Ok, Err, OnOk, OnErr, IfErr, All}
 use Rattle.std.proofs.lemmas.List.Elements.{All-push}
@@ -11,8 +11,3 @@ if_err (Err e) f p = f e p
 -- what stands at a place of a list, by an equal list
 pub same_get : {X : Type 0} (xs ys : List X) (i : ℕ) (x : X) → xs ≡ ys → slice_get xs i ≡ Some x → slice_get ys i ≡ Some x
 same_get xs ys i x e at = ap (λ zs. slice_get zs i) (sym e) ∙ at
-
--- a property of all elements stays where one that has it is appended, or nothing
-pub all_push : {X A E : Type 0} (P : X → Type 0) (r : Result A E) (xs ys : List X) (x : X) → P x → OnOk r (ys ≡ xs ++ x ∷ []) → OnErr r (ys ≡ xs) → All P xs → All P ys
-all_push P (Ok a) xs ys x p e f all = subst (All P) (sym e) (All-push P xs x all p)
-all_push P (Err a) xs ys x p e f all = subst (All P) (sym f) all

@@ -1,7 +1,7 @@
 -- A version that grows by the events of a certificate.
 use Rattle.std.proofs.Common.{◌≡◌, inr, ℕ, ◌+◌, ◌<◌, ◌≤◌, Bool, true, false, cond, List, [], ◌∷◌, ◌++◌, map, length, take, slice_get, refl, sym, ap, ap₂, subst, ◌∙◌, arith}
 use Rattle.std.proofs.lemmas.Option.{slice_get_within, get_or_from_slice_get}
-use Rattle.std.proofs.lemmas.List.{take_all, map-append}
+use Rattle.std.proofs.lemmas.List.{take_all, map-append, length-map}
 use Rattle.std.specs.FinMap as finite
 use Rattle.std.specs.declared.option.Option.{Option}
 use Rattle.std.specs.declared.option.Option.TheVariants.{Some, None}
@@ -13,7 +13,7 @@ use Rattle.srs_path.specs.declared.paths.Side.TheVariants.{Ge, Lt}
 use Rattle.srs_path.specs.declared.outcomes.Outcome.{Outcome}
 use Rattle.srs_path.specs.declared.outcomes.Outcome.TheVariants.{Inside, Outside, Cut, Left}
 use Rattle.srs_path.specs.Views.{Budget, Entry}
-use Rattle.srs_tree.specs.Queue.{WaitingCell, cell_in}
+use Rattle.srs_tree.specs.Queue.{WaitingCell, cell_in, cells_from}
 use Rattle.srs_tree.specs.Rounds.{parts_by}
 use Rattle.srs_tree.specs.Tree.{History, Tree, path_eq, outcome_at, IsCellOf, region_at}
 use Rattle.srs_tree.specs.Growth.{IsProvedOf, IsOpenIn, IsShortCut}
@@ -21,12 +21,12 @@ use Rattle.srs_tree.specs.WholeTrees.{AllowsAt}
 use Rattle.srs_tree.specs.Snapshots.{Snapshot, tree_of, with_entry, StandsFor}
 use Rattle.srs_tree.proofs.HistoryLemmas.{path_eq_same}
 use Rattle.srs_tree.proofs.StandsLemmas.{path_total, ties, Stands-empty, Stands-append}
-use Rattle.srs_file.specs.Certificates.{CertView, IsCertificate}
-use Rattle.srs_file.proofs.Preordered.{here_first, take_here, Takes, walked_takes}
+use Rattle.srs_cert.specs.Certificates.{CertView, IsCertificate}
+use Rattle.srs_cert.proofs.Preordered.{here_first, take_here, Takes, walked_takes}
 use Rattle.srs_check.specs.Proving.{Proves, cell_at}
 use Rattle.srs_check.specs.Builds.{as_built, built_in, IsBuilt}
 use Rattle.srs_check.proofs.Cuts.{cuts_of, cut_in, outcome_at-cuts, cell_forth, cell_back, region_same, region_then, legal_upto}
-use Rattle.srs_check.proofs.WalkStates.{AreGood, WalkState, good_more, good_divides, walk_first, walk_good, walk_next, cell_is}
+use Rattle.srs_check.proofs.WalkStates.{AreGood, WalkState, good_more, good_divides, walk_first, walk_good, walk_next, few_wait, cell_is}
 
 abbrev pub built_event : Entry → Entry
 built_event e = record { path = e.path; outcome = as_built e.outcome }
@@ -90,6 +90,13 @@ module _ (c : CertView) (is : IsCertificate c) (i : ℕ) (l : i ≤ length c.eve
       ∙ sym (region_same (outcome_at (cuts_of G)) (tree_of v) cuts_are (region_of c.vertices) p)
       ∙ region_then (region_of c.vertices) c.events is.tree i (legal_upto (region_of c.vertices) c.events is.tree i l (good_divides c i good)) p (cell_forth (outcome_at (cuts_of G)) (tree_of v) cuts_are p cell)
 
+-- only a cut has parts
+cut_by_parts : (path : List Side) (o : Outcome) (x y : WaitingCell) (u : Snapshot) → cells_from (Some (x, y)) ≡ map (cell_in u) (parts_by path (as_built o)) → (h : LinearForm) × (o ≡ Cut h)
+cut_by_parts path (Inside ranks) x y u e = absurd (let q : x ∷ y ∷ [] ≡ [] = e in cc)
+cut_by_parts path (Outside cycle) x y u e = absurd (let q : x ∷ y ∷ [] ≡ [] = e in cc)
+cut_by_parts path (Cut h) x y u e = (h, refl)
+cut_by_parts path (Left cause) x y u e = absurd (let q : x ∷ y ∷ [] ≡ [] = e in cc)
+
 module _ (c : CertView) (is : IsCertificate c) (i : ℕ) (w : WaitingCell) (rest : List WaitingCell) (v : Snapshot) (s : GrownTo c i (w ∷ rest) v) (e : Entry) (at : slice_get c.events i ≡ Some e) where
   early : i < length c.events
   early = slice_get_within c.events i e at
@@ -111,6 +118,12 @@ module _ (c : CertView) (is : IsCertificate c) (i : ℕ) (w : WaitingCell) (rest
 
   pub same_region : w.region ≡ region_at v.region (tree_of v) e.path
   same_region = cell_is c i w.region (regions_of rest) s.walk e at ∙ sym (same_cell c is i (omega (arith, early)) s.walk.good v s.stands e.path cell_is_open.cell)
+
+  -- fewer than 48 wait behind a cell that is cut
+  pub few_behind : (x y : WaitingCell) (u : Snapshot) → cells_from (Some (x, y)) ≡ map (cell_in u) (parts_by e.path (as_built e.outcome)) → length rest < 48
+  few_behind x y u parts =
+      let cut = cut_by_parts e.path e.outcome x y u parts in
+      omega (arith, few_wait c i w.region (regions_of rest) s.walk e at is cut.0 cut.1, length-map rest (λ (q : WaitingCell). q.region))
 
   module _ (proves : Proves w.region c.limits c.events (length e.path) e.outcome) (sound : IsProvedOf w.region e.outcome) where
     abbrev after : Snapshot

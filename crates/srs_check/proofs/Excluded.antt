@@ -12,7 +12,7 @@ use Rattle.srs_path.specs.Cutout.{Covers, lower_form, upper_form}
 use Rattle.srs_path.specs.Views.{Budget}
 use Rattle.srs_cut.specs.Judgement.{IsFirstBreak}
 use Rattle.srs_tree.specs.Tree.{History}
-use Rattle.srs_file.specs.Certificates.{CertView, line_of_node}
+use Rattle.srs_cert.specs.Certificates.{CertView, line_of_node}
 use Rattle.srs_check.specs.declared.faults.Fault.{Fault}
 use Rattle.srs_check.specs.declared.faults.Fault.TheVariants.{NoUnit, NotClosed, NoFall, NotCycle, NotProper, NoBudget}
 use Rattle.srs_check.specs.Listed.{RankList, IsClosedAt, ProvesInside, IsFaultAt, IsInsideFault}

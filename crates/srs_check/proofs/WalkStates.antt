@@ -1,8 +1,8 @@
 -- The walk of a check, node by node.
 use Rattle.std.proofs.Common.{◌≡◌, ℕ, ◌+◌, ◌<◌, ◌≤◌, List, [], ◌∷◌, ◌++◌, map, length, length-append, get_or, slice_get, refl, sym, ap, ap₂, subst, ◌∙◌, arith, append-nil}
 use Rattle.std.proofs.Math.Decide.{dec_lt}
-use Rattle.std.proofs.lemmas.List.{map-append}
-use Rattle.std.proofs.lemmas.Option.{same_Some, slice_get_within, slice_get-get_or}
+use Rattle.std.proofs.lemmas.List.{map-append, length-map}
+use Rattle.std.proofs.lemmas.Option.{same_Some, slice_get_within, slice_get-get_or, get_or_from_slice_get}
 use Rattle.std.specs.declared.option.Option.{Option}
 use Rattle.std.specs.declared.option.Option.TheVariants.{Some, None}
 use Rattle.srs_num.specs.Points.{LinearForm}
@@ -20,8 +20,9 @@ use Rattle.srs_path.specs.Views.{Entry}
 use Rattle.srs_tree.specs.Tree.{Tree, outcome_at, halves_along, cut_half}
 use Rattle.srs_tree.specs.Rounds.{parts_by}
 use Rattle.srs_tree.specs.Growth.{IsProvedOf}
+use Rattle.srs_tree.specs.WholeTrees.{AllowsAt}
 use Rattle.srs_tree.proofs.HistoryLemmas.{region_at-snoc}
-use Rattle.srs_file.specs.Certificates.{CertView, IsCertificate}
+use Rattle.srs_cert.specs.Certificates.{CertView, IsCertificate}
 use Rattle.srs_check.specs.declared.faults.Fault.{Fault}
 use Rattle.srs_check.specs.Proving.{Proves, ProvesItself, IsProved, cell_at}
 use Rattle.srs_check.specs.Faults.{Fails, IsFaultOf}
@@ -29,7 +30,7 @@ use Rattle.srs_check.specs.declared.nodes.Tested.{Tested}
 use Rattle.srs_check.specs.declared.nodes.Tested.TheVariants.{Leaf, Divided, Wrong}
 use Rattle.srs_check.specs.Tested.{IsGoodLeaf, IsDivided, IsTested}
 use Rattle.srs_check.specs.Certified.{IsCertified}
-use Rattle.srs_file.proofs.Preordered.{IsWalked, Takes, walked_first, walked_takes, walked_outcome}
+use Rattle.srs_cert.proofs.Preordered.{IsWalked, Takes, walked_first, walked_takes, walked_outcome}
 use Rattle.srs_check.proofs.Cuts.{DividesBefore, partition}
 
 -- the node proves itself, and what it claims is sound
@@ -41,11 +42,23 @@ pub record IsGood (c : CertView) (e : Entry) : Type 0 where
 abbrev pub AreGood : CertView → ℕ → Type 0
 AreGood c i = (k : ℕ) (e : Entry) → k < i → slice_get c.events k ≡ Some e → IsGood c e
 
+-- behind each path that waits there wait at most as many as it has sides
+abbrev pub IsStacked : List (List Side) → Type 0
+IsStacked [] = Unit {0}
+IsStacked (path ∷ paths) = (length paths ≤ length path) × IsStacked paths
+
+stacked_parts : (path : List Side) (o : Outcome) (rest : List (List Side)) → IsStacked (path ∷ rest) → IsStacked (parts_by path o ++ rest)
+stacked_parts path (Inside ranks) rest s = s.1
+stacked_parts path (Outside cycle) rest s = s.1
+stacked_parts path (Cut h) rest s = (omega (arith, s.0, length-append path (Ge ∷ [])), (omega (arith, s.0, length-append path (Lt ∷ [])), s.1))
+stacked_parts path (Left cause) rest s = s.1
+
 -- before node i: the cells that wait are those of the paths that wait, and each node before is good
 pub record WalkState (c : CertView) (i : ℕ) (cells : List Area) : Type 0 where
   pub waiting : List (List Side)
   pub walked : IsWalked c.events i waiting
   pub cells_are : cells ≡ map (cell_at c) waiting
+  pub stacked : IsStacked waiting
   pub good : AreGood c i
 
 pub walk_first : (c : CertView) (root : Area) → IsCertificate c → root ≡ region_of c.vertices → WalkState c 0 (root ∷ [])
@@ -53,6 +66,7 @@ walk_first c root is e = record {
   waiting = [] ∷ [];
   walked = walked_first c.events is.tree;
   cells_are = ap (λ (R : Area). R ∷ []) (e ∙ sym (append-nil (region_of c.vertices)));
+  stacked = (omega arith, tt);
   good = λ k e l at. absurd (omega arith);
 }
 
@@ -103,6 +117,16 @@ module _ (c : CertView) (i : ℕ) (R : Area) (rest : List Area) (s : WalkState c
   rest_is : rest ≡ map (cell_at c) t.rest
   rest_is = tail_is R (cell_at c e.path) rest (map (cell_at c) t.rest) both
 
+  stacked_here : IsStacked (e.path ∷ t.rest)
+  stacked_here = subst IsStacked t.first s.stacked
+
+  -- fewer than 48 wait behind a cell that is cut
+  pub few_wait : IsCertificate c → (h : LinearForm) → e.outcome ≡ Cut h → length rest < 48
+  few_wait is h q =
+      let keeps = subst (λ (x : Entry). AllowsAt c.limits (length x.path) x.outcome) (get_or_from_slice_get c.events i e e at) (is.within.each i e (slice_get_within c.events i e at)) in
+      let high : length e.path < c.limits.depth = subst (λ (o : Outcome). AllowsAt c.limits (length e.path) o) q keeps in
+      omega (arith, ap length rest_is, length-map t.rest (cell_at c), stacked_here.0, high, is.limits_are.depth)
+
   pub walk_good : Proves R c.limits c.events (length e.path) e.outcome → IsProvedOf R e.outcome → IsGood c e
   walk_good proves sound = record {
     proves = subst (λ (A : Area). Proves A c.limits c.events (length e.path) e.outcome) cell_is proves;
@@ -115,6 +139,7 @@ module _ (c : CertView) (i : ℕ) (R : Area) (rest : List Area) (s : WalkState c
     waiting = parts_by e.path e.outcome ++ t.rest;
     walked = t.next;
     cells_are = ap₂ (λ (xs ys : List Area). xs ++ ys) are rest_is ∙ sym (map-append (cell_at c) (parts_by e.path e.outcome) t.rest);
+    stacked = stacked_parts e.path e.outcome t.rest stacked_here;
     good = good_more c i e at s.good (walk_good proves sound);
   }
 
@@ -186,6 +211,12 @@ module _ (c : CertView) (i : ℕ) (l : i < length c.events) (R : Area) (rest : L
 
   pub after_cut : (x y : Cell) → t ≡ Divided x y → WalkState c (i + 1) (x ∷ y ∷ rest)
   after_cut x y q = let e = here c i l in walk_cut c i R rest s e.0 e.1 x y (told (Divided x y) q e.0 e.1)
+
+  pub few_after : IsCertificate c → (x y : Cell) → t ≡ Divided x y → length rest < 48
+  few_after is x y q =
+      let e = here c i l in
+      let d : IsDivided R e.0.outcome x y = told (Divided x y) q e.0 e.1 in
+      few_wait c i R rest s e.0 e.1 is d.form d.is_cut
 
   pub after_fault : (fault : Fault) → t ≡ Wrong fault → IsFaultOf c i fault
   after_fault fault q = let e = here c i l in walk_fault c i R rest s e.0 e.1 fault (told (Wrong fault) q e.0 e.1)

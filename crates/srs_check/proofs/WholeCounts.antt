@@ -30,7 +30,7 @@ use Rattle.srs_tree.proofs.PlannedWhole.{some_is}
 use Rattle.srs_tree.proofs.Sorted.{Pair, before}
 use Rattle.srs_tree.proofs.StandsLemmas.{ties}
 use Rattle.srs_check.specs.Budgets.{nodes_upto, nodes_at}
-use Rattle.srs_file.proofs.Preordered.{walked_all, walked_takes}
+use Rattle.srs_cert.proofs.Preordered.{walked_all, walked_takes}
 
 -- entries as events have the outcomes that are found at their paths
 events_found : (es : List Pair) (p : List Side) → outcome_at (map event_of es) p ≡ finite.find before p es

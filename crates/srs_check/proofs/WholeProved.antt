@@ -24,12 +24,12 @@ use Rattle.srs_tree.proofs.TreeLemmas.{cell_of_outcome}
 use Rattle.srs_tree.proofs.OnePlanLemmas.{has_event}
 use Rattle.srs_tree.proofs.Bounded.{depth_bound}
 use Rattle.srs_tree.proofs.Listed.{listed}
-use Rattle.srs_file.specs.Certificates.{CertView}
+use Rattle.srs_cert.specs.Certificates.{CertView}
 use Rattle.srs_check.specs.Listed.{RankList, IsListed, IsBelow, ProvesInside}
 use Rattle.srs_check.specs.Budgets.{nodes_upto, nodes_at, SpendsCells}
 use Rattle.srs_check.specs.Proving.{Proves, ProvesItself, cell_at}
 use Rattle.srs_check.specs.Whole.{IsOfWhole, WholeIsProved}
-use Rattle.srs_file.proofs.Preordered.{walked_all, walked_takes, walked_outcome}
+use Rattle.srs_cert.proofs.Preordered.{walked_all, walked_takes, walked_outcome}
 use Rattle.srs_check.proofs.WholeCounts.{preorder_same, upto_same, row_same}
 
 -- the ranks of all witnesses

@@ -8,7 +8,7 @@ use Rattle.srs_path.specs.declared.outcomes.Outcome.{Outcome}
 use Rattle.srs_path.specs.declared.outcomes.Outcome.TheVariants.{Inside, Outside, Cut, Left}
 use Rattle.srs_tree.specs.Tree.{outcome_at}
 use Rattle.srs_tree.specs.Snapshots.{Snapshot, tree_of}
-use Rattle.srs_file.specs.Certificates.{CertView}
+use Rattle.srs_cert.specs.Certificates.{CertView}
 use Rattle.srs_check.specs.declared.faults.Checked.TheVariants.{Valid, Bad}
 use Rattle.srs_check.specs.declared.builds.Built.{Built}
 use Rattle.srs_check.specs.declared.builds.Built.TheVariants.{Valid as BuiltValid, Bad as BuiltBad}

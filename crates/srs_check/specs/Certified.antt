@@ -4,7 +4,7 @@ use Rattle.srs_plane.specs.Polygons.{region_of}
 use Rattle.srs_path.specs.Views.{Entry}
 use Rattle.srs_tree.specs.Tree.{outcome_at, IsPartition}
 use Rattle.srs_tree.specs.Growth.{IsProvedOf}
-use Rattle.srs_file.specs.Certificates.{CertView}
+use Rattle.srs_cert.specs.Certificates.{CertView}
 use Rattle.srs_check.specs.declared.faults.Checked.{Checked}
 use Rattle.srs_check.specs.declared.faults.Checked.TheVariants.{Valid, Bad}
 use Rattle.srs_check.specs.Proving.{cell_at}

@@ -8,7 +8,7 @@ use Rattle.srs_path.specs.GridLine.{HasNoGridLine}
 use Rattle.srs_path.specs.Views.{Budget, Entry}
 use Rattle.srs_cut.specs.Judgement.{IsFirstBreak}
 use Rattle.srs_tree.specs.Tree.{History}
-use Rattle.srs_file.specs.Certificates.{CertView, line_of_node}
+use Rattle.srs_cert.specs.Certificates.{CertView, line_of_node}
 use Rattle.srs_check.specs.declared.faults.Fault.{Fault}
 use Rattle.srs_check.specs.declared.faults.Fault.TheVariants.{NotCycle, NotProper, NoBudget}
 use Rattle.srs_check.specs.declared.faults.Counts.{Counts}

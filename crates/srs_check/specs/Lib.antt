@@ -1,5 +1,6 @@
 pub mod Listed
 pub mod Places
+pub mod Stacks
 pub mod Budgets
 pub mod Proving
 pub mod Faults

@@ -10,7 +10,7 @@ use Rattle.srs_path.specs.Cutout.{Covers}
 use Rattle.srs_path.specs.GridLine.{HasNoGridLine}
 use Rattle.srs_path.specs.Views.{Budget, Entry}
 use Rattle.srs_tree.specs.Tree.{History, outcome_at, region_at}
-use Rattle.srs_file.specs.Certificates.{CertView}
+use Rattle.srs_cert.specs.Certificates.{CertView}
 use Rattle.srs_check.specs.Listed.{ProvesInside}
 use Rattle.srs_check.specs.Budgets.{SpendsCells}
 

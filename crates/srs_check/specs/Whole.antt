@@ -6,7 +6,7 @@ use Rattle.srs_tree.specs.Tree.{History}
 use Rattle.srs_tree.specs.Rounds.{IsWhole}
 use Rattle.srs_tree.specs.Snapshots.{Snapshot, StandsFor}
 use Rattle.srs_tree.specs.Preorder.{preorder_of}
-use Rattle.srs_file.specs.Certificates.{CertView}
+use Rattle.srs_cert.specs.Certificates.{CertView}
 use Rattle.srs_check.specs.declared.faults.Checked.{Checked}
 use Rattle.srs_check.specs.declared.faults.Checked.TheVariants.{Valid, Bad}
 use Rattle.srs_check.specs.Proving.{IsProved}

@@ -13,7 +13,7 @@ use crate::rows::{node_count, rows_of};
 use crate::waiting::Waiting;
 use crate::{Counts, Fault};
 use srs_cell::Cell;
-use srs_file::Cert;
+use srs_cert::Cert;
 use srs_num::NoMemory;
 use srs_path::{Event, Finding, Outcome};
 use srs_tree::{Pending, TreeBuilder, TreeErr, Version};
@@ -45,7 +45,7 @@ pub fn build(alloc: Global, c: &Cert) -> Result<Built, NoMemory>
             return Ok(Built::Bad(c.line(i), fault));
         }
         if let Some((ge, lt)) = enter(alloc, &mut tree, event, &next.cell)? {
-            waiting.divide(ge, lt)?;
+            waiting.divide(ge, lt);
         }
     }
     Ok(Built::Valid(tree.finish(), count_nodes(c)))

@@ -11,7 +11,7 @@ use crate::rows::{node_count, rows_of};
 use crate::waiting::Waiting;
 use crate::{Checked, Counts, Fault};
 use srs_cell::Cell;
-use srs_file::Cert;
+use srs_cert::Cert;
 use srs_num::NoMemory;
 use srs_path::Outcome;
 use srs_plane::{PolyErr, polygon};
@@ -65,7 +65,7 @@ fn first_fault(alloc: Global, c: &Cert, root: Cell) -> Result<Option<(u32, Fault
         };
         match test_node(alloc, c, &rows, i, &cell)? {
             Tested::Leaf => {}
-            Tested::Divided(ge, lt) => waiting.divide(ge, lt)?,
+            Tested::Divided(ge, lt) => waiting.divide(ge, lt),
             Tested::Wrong(fault) => return Ok(Some((i, fault))),
         }
     }

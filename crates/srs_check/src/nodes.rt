@@ -16,7 +16,7 @@ use crate::listed::check_inside;
 use crate::rows::{Rows, spends_cells};
 use srs_cell::{Cell, Parts, divides};
 use srs_cut::{Judged, judge};
-use srs_file::Cert;
+use srs_cert::Cert;
 use srs_grid::line;
 use srs_num::{Form, NoMemory};
 use srs_path::{Cause, Cycle, Event, Outcome};

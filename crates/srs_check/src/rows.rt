@@ -1,10 +1,10 @@
 // The numbers of nodes by their depth.
 ghost use Rattle.std.specs.Prelude.{◌≡◌, ◌≤◌, length, IsTrue, ◌↔◌};
 ghost use Rattle.srs_path.specs.Views.{IsBudget};
-ghost use Rattle.srs_file.specs.Certificates.{IsCertificate};
+ghost use Rattle.srs_cert.specs.Certificates.{IsCertificate};
 ghost use Rattle.srs_check.specs.Budgets.{SpendsCells, CountsRows};
 
-use srs_file::Cert;
+use srs_cert::Cert;
 
 // How many nodes there are of each depth.
 pub(crate) type Rows = [u32; 49];

@@ -1,13 +1,13 @@
 // The cells of the nodes that are still to come.
-ghost use Rattle.std.specs.Prelude.{◌≡◌, [], ◌∷◌, ◌++◌, All, IsSome, OnOk, Some, MatchOption};
+ghost use Rattle.std.specs.Prelude.{◌≡◌, ◌<◌, [], ◌∷◌, ◌++◌, Some, length, MatchOption};
+ghost use Rattle.srs_check.specs.Stacks.{KeepsRoom, IsPushed};
 
 use smallvec::SmallVec;
-use srs_num::NoMemory;
 use std::alloc::Global;
 use std::marker::Model;
 
-// The Ge part of the last cut, if its node is the next one, and the parts that come after it, the first of them last: at
-// most 48.
+// The Ge part of the last cut, if its node is the next one, and the parts that come after it, the first of them last. There
+// are never more of them than a path has sides, so they take no memory beside their places.
 #[derive(Drop)]
 pub(crate) struct Waiting<T> {
     next: Option<T>,
@@ -16,9 +16,10 @@ pub(crate) struct Waiting<T> {
 }
 
 impl<T> Model for Waiting<T> {
-    ghost use Rattle.std.specs.Prelude.{List, ◌++◌, All, IsSome, reverse, option_to_list};
+    ghost use Rattle.std.specs.Prelude.{List, ◌++◌, reverse, option_to_list};
     ghost use Rattle.std.specs.List.{flat_map};
     ghost use Rattle.std.specs.Coded.{coded_list};
+    ghost use Rattle.srs_check.specs.Stacks.{KeepsRoom};
 
     ghost Value = { List T };
 
@@ -26,7 +27,7 @@ impl<T> Model for Waiting<T> {
 
     ghost view = { λ w. option_to_list w.next ++ flat_map option_to_list (reverse w.later.items) };
 
-    ghost invariant = { λ w. All IsSome w.later.items };
+    ghost invariant = { λ w. KeepsRoom w.later.items w.later.capacity };
 }
 
 impl<T: Drop> Waiting<T> {
@@ -50,26 +51,22 @@ impl<T: Drop> Waiting<T> {
         }
     }
 
-    // The parts of a cell come before the others. An `Err` is want of memory.
-    pub(crate) fn divide(&mut self, ge: T, lt: T) -> Result<(), NoMemory>
-        ensures { OnOk result (self.new ≡ ge ∷ lt ∷ self.old) }
+    // The parts of a cell come before the others, of which there are fewer than 48.
+    pub(crate) fn divide(&mut self, ge: T, lt: T)
+        requires { length self.old < 48 }
+        ensures { self.new ≡ ge ∷ lt ∷ self.old }
     {
         if let Some(cell) = self.next.take() {
-            push(&mut self.later, cell)?;
+            push(&mut self.later, cell);
         }
-        push(&mut self.later, lt)?;
+        push(&mut self.later, lt);
         self.next = Some(ge);
-        Ok(())
     }
 }
 
-// One cell more.
-fn push<T: Drop>(cells: &mut SmallVec<Option<T>, 48>, cell: T) -> Result<(), NoMemory>
-    ensures ok { OnOk result (cells.new.items ≡ cells.old.items ++ Some cell ∷ []) }
-    ensures kept { All IsSome cells.old.items → All IsSome cells.new.items }
+// One cell more, where there is room.
+fn push<T: Drop>(cells: &mut SmallVec<Option<T>, 48>, cell: T)
+    ensures { KeepsRoom cells.old.items cells.old.capacity → length cells.old.items < 48 → IsPushed cells.old.items cells.new.items cells.new.capacity cell }
 {
-    match cells.push(Some(cell)) {
-        Ok(()) => Ok(()),
-        Err(_) => Err(NoMemory),
-    }
+    let _ = cells.push(Some(cell));
 }

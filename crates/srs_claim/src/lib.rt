@@ -2,6 +2,8 @@
 #![tactic(auto)]
 
 mod claims;
+mod sharing;
 mod view;
 
 pub use claims::{ClaimSeat, Claims, NoMemory};
+pub use sharing::shared;

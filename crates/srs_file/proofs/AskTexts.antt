@@ -10,8 +10,8 @@ use Rattle.srs_line.proofs.MachineLemmas.{runs_append, runs_inside}
 use Rattle.srs_file.specs.declared.cert_reader.CertReader.{CertReader}
 use Rattle.srs_file.specs.declared.questions.Questions.{Questions}
 use Rattle.srs_file.specs.declared.ask_reader.AskReader.{AskReader}
-use Rattle.srs_file.specs.Texts.{ended}
-use Rattle.srs_file.specs.Certificates.{CertView}
+use Rattle.srs_cert.specs.Texts.{ended}
+use Rattle.srs_cert.specs.Certificates.{CertView}
 use Rattle.srs_file.specs.Grammar.{SpellsAsk}
 use Rattle.srs_file.specs.CertReading.{cert_start, CertSteps, CertEnds, read_view}
 use Rattle.srs_file.specs.QuestionReading.{no_questions, TakesQuestion}

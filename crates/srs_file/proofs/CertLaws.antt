@@ -1,22 +1,21 @@
 -- The reader of certificates meets what the laws of line grammars ask.
-use Rattle.std.proofs.Common.{◌≡◌, ℕ, ℤ, pos, List, [], ◌∷◌, codes, refl, sym, ◌∙◌, inl, inr, arith}
+use Rattle.std.proofs.Common.{◌≡◌, ℕ, ℤ, pos, List, [], ◌∷◌, codes, refl, sym, ◌∙◌, inl, inr}
 use Rattle.srs_path.specs.Views.{Budget}
 use Rattle.srs_line.specs.declared.slip.Slip.{Slip}
-use Rattle.srs_line.specs.declared.slip.Slip.TheVariants.{Count}
 use Rattle.srs_line.specs.Fields.{Says}
 use Rattle.srs_line.specs.Machine.{IsExact}
-use Rattle.srs_line.proofs.FieldLaws.{says_once, no_field_slip, field_slip_once, no_count_slip, count_slip_once}
+use Rattle.srs_line.proofs.FieldLaws.{says_once, no_field_slip, field_slip_once}
 use Rattle.srs_file.specs.declared.cert_reader.CertPhase.{CertPhase}
-use Rattle.srs_file.specs.declared.cert_reader.CertPhase.TheVariants.{First, Head, Vertices, Nodes, Done}
+use Rattle.srs_file.specs.declared.cert_reader.CertPhase.TheVariants.{First, Polygon, Nodes, Done}
 use Rattle.srs_file.specs.declared.cert_reader.CertReader.{CertReader}
 use Rattle.srs_file.specs.CertReading.{StepsFrom, SlipsFrom, CertSteps, CertSlips, CertEnds, SlipsFirst, SaysLimits, IsLimitsSlip, StepsLimits}
-use Rattle.srs_file.proofs.RingLaws.{opens_once, takes_once, ring_apart, ring_slips_once}
+use Rattle.srs_file.proofs.OutlineLaws.{outline_once, outline_apart, outline_slips}
 use Rattle.srs_file.proofs.TreeLaws.{line_once, line_apart, line_slips}
 
 abbrev pub limit_numbers : Budget → List ℤ
 limit_numbers b = pos b.depth ∷ pos b.cells ∷ pos b.wits ∷ []
 
-same_budget : (d c w x y z : ℕ) → d ≡ x → c ≡ y → w ≡ z → let a : Budget = record { depth = d; cells = c; wits = w } in let b : Budget = record { depth = x; cells = y; wits = z } in a ≡ b
+pub same_budget : (d c w x y z : ℕ) → d ≡ x → c ≡ y → w ≡ z → let a : Budget = record { depth = d; cells = c; wits = w } in let b : Budget = record { depth = x; cells = y; wits = z } in a ≡ b
 same_budget d c w x y z e f g = rw (e, f, g) refl
 
 limits_once : (a b : Budget) (line : List ℕ) → SaysLimits a line → SaysLimits b line → a ≡ b
@@ -47,11 +46,10 @@ begins_once s t u line (a, p, e) (b, q, f) = let same : a ≡ b = limits_once a 
 
 once : (phase : CertPhase) (s t u : CertReader) (line : List ℕ) → StepsFrom phase s line t → StepsFrom phase s line u → t ≡ u
 once First s t u line (p, e) (q, f) = e ∙ sym f
-once Head s t u line (r, p, e) (q, o, f) = rw (e, f, opens_once (codes "polygon") r q line p o) refl
-once Vertices s t u line (inl (a, r, p, e)) (inl (b, q, o, f)) = rw (e, f, takes_once s.ring r q line p o) refl
-once Vertices s t u line (inl (a, r, p, e)) (inr (b, o)) = absurd (omega arith)
-once Vertices s t u line (inr (a, p)) (inl (b, q, o, f)) = absurd (omega arith)
-once Vertices s t u line (inr (a, p)) (inr (b, q)) = begins_once s t u line p q
+once Polygon s t u line (inl (a, r, p, e)) (inl (b, q, o, f)) = rw (e, f, outline_once s.outline r q line p o) refl
+once Polygon s t u line (inl (a, r, p, e)) (inr (b, o)) = absurd (a b)
+once Polygon s t u line (inr (a, p)) (inl (b, q, o, f)) = absurd (b a)
+once Polygon s t u line (inr (a, p)) (inr (b, q)) = begins_once s t u line p q
 once Nodes s t u line (inl (a, r, p, e)) (inl (b, q, o, f)) = rw (e, f, line_once s.tree r q line p o) refl
 once Nodes s t u line (inl (a, r, p, e)) (inr (b, o, f)) = absurd (a b)
 once Nodes s t u line (inr (a, p, e)) (inl (b, q, o, f)) = absurd (b a)
@@ -72,11 +70,10 @@ first_slips line d e m n (inr (z, q, other, f), b) (inr (y, p, other', g), c) = 
 
 apart : (phase : CertPhase) (s t : CertReader) (line : List ℕ) (slip : Slip) (back : ℕ) → StepsFrom phase s line t → SlipsFrom phase s line slip back → ⊥
 apart First s t line slip back (p, e) f = first_apart line slip back p f
-apart Head s t line slip back (r, (n, p, e), f) (g, b) = no_count_slip (codes "polygon") line 3 16 n Count slip p g
-apart Vertices s t line slip back (inl (a, r, p, e)) (inl (b, f)) = ring_apart s.ring r line slip back p f
-apart Vertices s t line slip back (inl (a, r, p, e)) (inr (b, f, c)) = omega arith
-apart Vertices s t line slip back (inr (a, p)) (inl (b, f)) = omega arith
-apart Vertices s t line slip back (inr (a, (l, p, e))) (inr (b, f, c)) = no_limits_slip l line slip p f
+apart Polygon s t line slip back (inl (a, r, p, e)) (inl (b, f)) = outline_apart s.outline r line slip back p f
+apart Polygon s t line slip back (inl (a, r, p, e)) (inr (b, f, c)) = a b
+apart Polygon s t line slip back (inr (a, p)) (inl (b, f)) = b a
+apart Polygon s t line slip back (inr (a, (l, p, e))) (inr (b, f, c)) = no_limits_slip l line slip p f
 apart Nodes s t line slip back (inl (a, r, p, e)) (inl (b, f)) = line_apart s.tree r line slip back p f
 apart Nodes s t line slip back (inl (a, r, p, e)) (inr (b, f, g, c)) = a b
 apart Nodes s t line slip back (inr (a, p, e)) (inl (b, f)) = b a
@@ -85,11 +82,10 @@ apart Done s t line slip back p q = p
 
 slips : (phase : CertPhase) (s : CertReader) (line : List ℕ) (d e : Slip) (m n : ℕ) → SlipsFrom phase s line d m → SlipsFrom phase s line e n → (d ≡ e) × (m ≡ n)
 slips First s line d e m n f g = first_slips line d e m n f g
-slips Head s line d e m n (f, b) (g, c) = (count_slip_once (codes "polygon") line 3 16 Count d e f g, b ∙ sym c)
-slips Vertices s line d e m n (inl (a, f)) (inl (b, g)) = ring_slips_once s.ring line d e m n f g
-slips Vertices s line d e m n (inl (a, f)) (inr (b, g, c)) = absurd (omega arith)
-slips Vertices s line d e m n (inr (a, f, b)) (inl (c, g)) = absurd (omega arith)
-slips Vertices s line d e m n (inr (a, f, b)) (inr (c, g, z)) = (limits_slip_once line d e f g, b ∙ sym z)
+slips Polygon s line d e m n (inl (a, f)) (inl (b, g)) = outline_slips s.outline line d e m n f g
+slips Polygon s line d e m n (inl (a, f)) (inr (b, g, c)) = absurd (a b)
+slips Polygon s line d e m n (inr (a, f, b)) (inl (c, g)) = absurd (c a)
+slips Polygon s line d e m n (inr (a, f, b)) (inr (c, g, z)) = (limits_slip_once line d e f g, b ∙ sym z)
 slips Nodes s line d e m n (inl (a, f)) (inl (b, g)) = line_slips s.tree line d e m n f g
 slips Nodes s line d e m n (inl (a, f)) (inr (b, p, g, c)) = absurd (a b)
 slips Nodes s line d e m n (inr (a, p, f, b)) (inl (c, g)) = absurd (c a)

@@ -8,11 +8,6 @@ pub mod CertTexts
 pub mod LineShapes
 pub mod TreeRuns
 pub mod CertRuns
-pub mod LineCounts
-pub mod NodeLines
-pub mod Preordered
-pub mod LtParts
-pub mod Descents
 pub mod RingLaws
 pub mod RingTexts
 pub mod QuestionLaws
@@ -20,5 +15,15 @@ pub mod QuestionTexts
 pub mod QuestionRuns
 pub mod AskTexts
 pub mod AskLaws
+pub mod OutlineLaws
+pub mod OutlineTexts
 pub mod PolygonLaws
 pub mod PolygonTexts
+pub mod RingDecided
+pub mod OutlineDecided
+pub mod PolygonDecided
+pub mod TreeDecided
+pub mod CertDecided
+pub mod AskDecided
+pub mod LiveTexts
+pub mod LiveLaws

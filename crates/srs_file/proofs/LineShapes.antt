@@ -25,7 +25,7 @@ AreHigh (x ∷ xs) = (33 ≤ x) × AreHigh xs
 abbrev pub IsPlainWord : List ℕ → Type 0
 IsPlainWord word = All (λ c. 32 < c) word
 
-high_plain : (xs : List ℕ) → AreHigh xs → IsPlainWord xs
+pub high_plain : (xs : List ℕ) → AreHigh xs → IsPlainWord xs
 high_plain [] c = All-nil (λ c. 32 < c)
 high_plain (x ∷ xs) c = All-cons (λ c. 32 < c) x xs (omega arith) (high_plain xs c.1)
 

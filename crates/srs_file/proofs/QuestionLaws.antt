@@ -7,7 +7,7 @@ use Rattle.srs_line.specs.declared.slip.Slip.TheVariants.{Count}
 use Rattle.srs_line.specs.Fields.{Says, HasWord}
 use Rattle.srs_line.proofs.FieldLaws.{word_once, says_once, no_field_slip, field_slip_once, no_count_slip, count_slip_once}
 use Rattle.srs_file.specs.declared.questions.Questions.{Questions}
-use Rattle.srs_file.specs.Sayings.{place_numbers}
+use Rattle.srs_cert.specs.Sayings.{place_numbers}
 use Rattle.srs_file.specs.QuestionReading.{SaysPlace, IsPlaceSlip, SaysOrbit, IsOrbitSlip, StepsQuestion, SlipsAsked, StepsVertex, TakesQuestion, SlipsQuestion}
 use Rattle.srs_file.specs.Questions.{orbit_numbers}
 use Rattle.srs_file.proofs.LeafLaws.{same_pair}

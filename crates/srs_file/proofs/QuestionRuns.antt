@@ -17,8 +17,8 @@ use Rattle.srs_line.proofs.MachineLemmas.{runs_append}
 use Rattle.srs_line.proofs.LineTexts.{says_line, line_no_lf}
 use Rattle.srs_line.proofs.FieldLaws.{says_word}
 use Rattle.srs_file.specs.declared.questions.Questions.{Questions}
-use Rattle.srs_file.specs.Texts.{ended}
-use Rattle.srs_file.specs.Sayings.{place_numbers}
+use Rattle.srs_cert.specs.Texts.{ended}
+use Rattle.srs_cert.specs.Sayings.{place_numbers}
 use Rattle.srs_file.specs.Questions.{orbit_numbers, IsQuestion, AreQuestions, region_text}
 use Rattle.srs_tree.specs.Questions.{IsOrbitAsked}
 use Rattle.srs_file.specs.Ring.{RingView, no_ring}

@@ -7,8 +7,8 @@ use Rattle.srs_tree.specs.declared.queries.Query.TheVariants.{Point, Polygon, Or
 use Rattle.srs_line.specs.Machine.{joined, Runs}
 use Rattle.srs_line.proofs.LineTexts.{said_is}
 use Rattle.srs_file.specs.declared.questions.Questions.{Questions}
-use Rattle.srs_file.specs.Texts.{ended}
-use Rattle.srs_file.specs.Sayings.{place_numbers}
+use Rattle.srs_cert.specs.Texts.{ended}
+use Rattle.srs_cert.specs.Sayings.{place_numbers}
 use Rattle.srs_file.specs.Questions.{orbit_numbers, IsQuestion, AreQuestions}
 use Rattle.srs_file.specs.Ring.{RingView, no_ring}
 use Rattle.srs_file.specs.QuestionReading.{Asks, TakesQuestion}

@@ -9,7 +9,7 @@ use Rattle.srs_plane.specs.Polygons.{TurnsLeft, TurnsWrong, IsPolygon, IsPolygon
 use Rattle.srs_line.specs.declared.slip.Slip.{Slip}
 use Rattle.srs_line.specs.Fields.{Says, HasWord}
 use Rattle.srs_line.proofs.FieldLaws.{word_once, says_once, says_word, no_field_slip, field_slip_once, count_once}
-use Rattle.srs_file.specs.Texts.{kind_word}
+use Rattle.srs_cert.specs.Texts.{kind_word}
 use Rattle.srs_file.specs.Ring.{RingView, SaysVertex, IsVertexSlip, IsTurn, Opens, Adds, TakesVertex, SlipsVertex}
 
 second : (a b c d : ℕ) → a ∷ b ∷ [] ≡ c ∷ d ∷ [] → b ≡ d

@@ -16,7 +16,7 @@ use Rattle.srs_plane.proofs.Sizes.{small}
 use Rattle.srs_line.specs.Machine.{joined, Runs}
 use Rattle.srs_line.specs.Fields.{Says, line_of}
 use Rattle.srs_line.proofs.LineTexts.{said_is, says_line, line_no_lf}
-use Rattle.srs_file.specs.Texts.{ended, kind_word, vertex_text, count_text}
+use Rattle.srs_cert.specs.Texts.{ended, kind_word, vertex_text, count_text}
 use Rattle.srs_file.specs.Ring.{RingView, IsFull, SaysVertex, Adds, Opens, TakesVertex}
 use Rattle.srs_file.proofs.RingLaws.{numbers_of}
 

@@ -22,9 +22,9 @@ use Rattle.srs_line.proofs.FieldLaws.{says_word}
 use Rattle.srs_file.specs.declared.tree.Tree.{Tree}
 use Rattle.srs_file.specs.declared.cert_reader.CertPhase.TheVariants.{Nodes, Done}
 use Rattle.srs_file.specs.declared.cert_reader.CertReader.{CertReader}
-use Rattle.srs_file.specs.Texts.{ended, count_text, rank_text, outcome_text}
-use Rattle.srs_file.specs.Certificates.{CertView, IsInRange}
-use Rattle.srs_file.specs.Ring.{RingView}
+use Rattle.srs_cert.specs.Texts.{ended, count_text, rank_text, outcome_text}
+use Rattle.srs_cert.specs.Certificates.{CertView, IsInRange}
+use Rattle.srs_file.specs.declared.outline.Outline.{Outline}
 use Rattle.srs_file.specs.Leaf.{LeafView, IsEntry, Follows}
 use Rattle.srs_file.specs.TreeReading.{left_line, no_leaf, at_path, Counts}
 use Rattle.srs_file.specs.CertReading.{CertSteps, read_view}
@@ -100,16 +100,16 @@ cells_after cells (Left cause) = cells
 not_empty : (waiting rest : List (List Side)) (path : List Side) → waiting ≡ path ∷ rest → waiting ≢ []
 not_empty waiting rest path e f = omega (arith, ap length e, ap length f)
 
-module _ (ring : RingView) (b : Budget) (is_budget : IsBudget b) where
+module _ (outline : Outline) (b : Budget) (is_budget : IsBudget b) where
   abbrev pub st : ℕ → List (List Side) → LeafView → History → CertReader
-  st cells pending leaf H = record { phase = Nodes; ring = ring; tree = record { limits = b; cells = cells; pending = pending; leaf = leaf; events = H } }
+  st cells pending leaf H = record { phase = Nodes; outline = outline; tree = record { limits = b; cells = cells; pending = pending; leaf = leaf; events = H } }
 
   -- the lines lead to an end, with these events
   pub record Ends (s : CertReader) (lines : List (List ℕ)) (G : History) : Type 0 where
     pub last : CertReader
     pub runs : Runs CertSteps s lines last
     pub done : last.phase ≡ Done
-    pub view_is : read_view last ≡ (record { vertices = ring.vertices; limits = b; events = G })
+    pub view_is : read_view last ≡ (record { vertices = outline.ring.vertices; limits = b; events = G })
 
   leaf_left : (m n : ℕ) (es : List (V2 × ℕ)) → m ≡ n → let l : LeafView = record { left = m; entries = es } in l ≡ (record { left = n; entries = es })
   leaf_left m n es e = rw e refl
@@ -222,7 +222,7 @@ module _ (ring : RingView) (b : Budget) (is_budget : IsBudget b) where
     last = record (st cells [] no_leaf before) { phase = Done };
     runs = (record (st cells [] no_leaf before) { phase = Done }, inr (refl, refl, refl), end_no_lf, refl);
     done = refl;
-    view_is = ap (λ (G : History). let v : CertView = record { vertices = ring.vertices; limits = b; events = G } in v) (sym (append-nil before));
+    view_is = ap (λ (G : History). let v : CertView = record { vertices = outline.ring.vertices; limits = b; events = G } in v) (sym (append-nil before));
   }
   tree_runs cells [] before (e ∷ H) l size room kept ranges = absurd l
   tree_runs cells (path ∷ rest) before [] l size room kept ranges = absurd l

@@ -21,8 +21,8 @@ use Rattle.srs_tree.specs.WholeTrees.{ListsTrees, AllowsAt, KeepsTo}
 use Rattle.srs_line.specs.Fields.{line_of}
 use Rattle.srs_line.proofs.LineTexts.{said_is}
 use Rattle.srs_file.specs.declared.tree.Tree.{Tree}
-use Rattle.srs_file.specs.Texts.{ended, count_text, rank_text, outcome_text}
-use Rattle.srs_file.specs.Certificates.{outcomes_of, IsInRange}
+use Rattle.srs_cert.specs.Texts.{ended, count_text, rank_text, outcome_text}
+use Rattle.srs_cert.specs.Certificates.{outcomes_of, IsInRange}
 use Rattle.srs_file.specs.Leaf.{LeafView, TakesEntry}
 use Rattle.srs_file.specs.TreeReading.{at_path, no_leaf, only_root, Settles, Divides, HasRoom, StepsNode, StepsEntry, TakesLine}
 use Rattle.srs_file.proofs.Leaves.{ascends_push}

@@ -9,7 +9,7 @@ use Rattle.srs_line.specs.Refusal.{IsRefused}
 use Rattle.srs_file.specs.declared.cert_reader.CertReader.{CertReader}
 use Rattle.srs_file.specs.declared.questions.Questions.{Questions}
 use Rattle.srs_file.specs.declared.ask_reader.AskReader.{AskReader}
-use Rattle.srs_file.specs.Certificates.{CertView}
+use Rattle.srs_cert.specs.Certificates.{CertView}
 use Rattle.srs_file.specs.Grammar.{SpellsAsk}
 use Rattle.srs_file.specs.CertReading.{cert_start, CertSteps, CertSlips, CertEnds, read_view}
 use Rattle.srs_file.specs.QuestionReading.{no_questions, TakesQuestion, SlipsQuestion}
@@ -52,6 +52,11 @@ ReadsAsAsk text c queries = (last : AskReader) × IsRead AskSteps AskEnds ask_st
 -- the first slip of the text, and its line
 abbrev pub FirstAskSlip : List ℕ → ℕ → Slip → Type 0
 FirstAskSlip text line slip = SlipsAt AskSteps AskSlips AskEnds ask_start text line slip
+
+-- the text is a certificate with questions, or has a first slip
+abbrev pub IsAskOrSlips : List ℕ → Type 0
+IsAskOrSlips text =
+    ((c : CertView) × (queries : List Query) × SpellsAsk text c queries) ⊎ ((line : ℕ) × (slip : Slip) × FirstAskSlip text line slip)
 
 -- the first slip of the text, or want of memory
 abbrev pub IsAskRefusal : List ℕ → FileErr → Type 0

@@ -1,5 +1,5 @@
--- Reading a certificate: its version, the number of vertices, the vertices, the limits, the tree, and `end`.
-use Rattle.std.specs.Prelude.{◌≡◌, ◌≢◌, ◌⊎◌, ⊤, ℕ, ◌<◌, ℤ, pos, List, [], ◌∷◌, None, codes}
+-- Reading a certificate: its version, its polygon, its limits, its tree, and `end`.
+use Rattle.std.specs.Prelude.{◌≡◌, ◌≢◌, ◌⊎◌, ⊤, ℕ, ℤ, pos, List, [], ◌∷◌, codes}
 use Rattle.srs_path.specs.Views.{Budget, IsBudget}
 use Rattle.srs_line.specs.declared.slip.Slip.{Slip}
 use Rattle.srs_line.specs.declared.slip.Slip.TheVariants.{Word, Version, Range}
@@ -10,29 +10,22 @@ use Rattle.srs_line.specs.Machine.{IsRead, SlipsAt}
 use Rattle.srs_line.specs.Refusal.{IsRefused}
 use Rattle.srs_file.specs.declared.tree.Tree.{Tree}
 use Rattle.srs_file.specs.declared.cert_reader.CertPhase.{CertPhase}
-use Rattle.srs_file.specs.declared.cert_reader.CertPhase.TheVariants.{First, Head, Vertices, Nodes, Done}
+use Rattle.srs_file.specs.declared.cert_reader.CertPhase.TheVariants.{First, Polygon, Nodes, Done}
 use Rattle.srs_file.specs.declared.cert_reader.CertReader.{CertReader}
 use Rattle.srs_file.specs.Grammar.{SpellsCertificate}
-use Rattle.srs_file.specs.Certificates.{CertView}
-use Rattle.srs_file.specs.Ring.{RingView, Opens, IsOpenSlip, TakesVertex, SlipsVertex}
+use Rattle.srs_cert.specs.Certificates.{CertView}
+use Rattle.srs_file.specs.declared.outline.Outline.{Outline}
+use Rattle.srs_file.specs.Outline.{no_outline, IsWholeOutline, TakesOutline, SlipsOutline}
 use Rattle.srs_file.specs.TreeReading.{no_tree, only_root, TakesLine, SlipsLine}
 
 -- the first line says the version, which is 1
 abbrev pub StepsFirst : CertReader → List ℕ → CertReader → Type 0
-StepsFirst old line new = Says (codes "srs") (pos 1 ∷ []) line × (new ≡ record old { phase = Head })
+StepsFirst old line new = Says (codes "srs") (pos 1 ∷ []) line × (new ≡ record old { phase = Polygon })
 
 -- what is wrong with the first line
 abbrev pub SlipsFirst : List ℕ → Slip → ℕ → Type 0
 SlipsFirst line slip back =
     (IsFieldSlip (codes "srs") 1 line slip ⊎ ((z : ℤ) × Says (codes "srs") (z ∷ []) line × (z ≢ pos 1) × (slip ≡ Version))) × (back ≡ 0)
-
--- the second line opens the ring
-abbrev pub StepsHead : CertReader → List ℕ → CertReader → Type 0
-StepsHead old line new = (ring : RingView) × Opens (codes "polygon") line ring × (new ≡ record old { phase = Vertices; ring = ring })
-
--- what is wrong with the second line
-abbrev pub SlipsHead : List ℕ → Slip → ℕ → Type 0
-SlipsHead line slip back = IsOpenSlip (codes "polygon") line slip × (back ≡ 0)
 
 -- the line says the limits, in their ranges
 abbrev pub SaysLimits : Budget → List ℕ → Type 0
@@ -51,16 +44,17 @@ IsLimitsSlip line slip =
 abbrev pub StepsLimits : CertReader → List ℕ → CertReader → Type 0
 StepsLimits old line new = (b : Budget) × SaysLimits b line × (new ≡ record old { phase = Nodes; tree = only_root b })
 
--- a vertex where one is to come, and else the limits
-abbrev pub StepsVertices : CertReader → List ℕ → CertReader → Type 0
-StepsVertices old line new =
-    ((0 < old.ring.left) × (ring : RingView) × TakesVertex old.ring line ring × (new ≡ record old { ring = ring }))
-    ⊎ ((old.ring.left ≡ 0) × StepsLimits old line new)
+-- a line of the polygon while it isn't whole, and then the limits
+abbrev pub StepsInPolygon : CertReader → List ℕ → CertReader → Type 0
+StepsInPolygon old line new =
+    ((¬ (IsWholeOutline old.outline)) × (outline : Outline) × TakesOutline old.outline line outline × (new ≡ record old { outline = outline }))
+    ⊎ (IsWholeOutline old.outline × StepsLimits old line new)
 
--- what is wrong with a vertex, or with the limits
-abbrev pub SlipsVertices : CertReader → List ℕ → Slip → ℕ → Type 0
-SlipsVertices old line slip back =
-    ((0 < old.ring.left) × SlipsVertex old.ring line slip back) ⊎ ((old.ring.left ≡ 0) × IsLimitsSlip line slip × (back ≡ 0))
+-- what is wrong with a line of the polygon, or with the limits
+abbrev pub SlipsInPolygon : CertReader → List ℕ → Slip → ℕ → Type 0
+SlipsInPolygon old line slip back =
+    ((¬ (IsWholeOutline old.outline)) × SlipsOutline old.outline line slip back)
+    ⊎ (IsWholeOutline old.outline × IsLimitsSlip line slip × (back ≡ 0))
 
 -- a line of the tree where a cell waits, and else `end`
 abbrev pub StepsNodes : CertReader → List ℕ → CertReader → Type 0
@@ -77,16 +71,14 @@ SlipsNodes old line slip back =
 -- what a good line does in each phase
 abbrev pub StepsFrom : CertPhase → CertReader → List ℕ → CertReader → Type 0
 StepsFrom First old line new = StepsFirst old line new
-StepsFrom Head old line new = StepsHead old line new
-StepsFrom Vertices old line new = StepsVertices old line new
+StepsFrom Polygon old line new = StepsInPolygon old line new
 StepsFrom Nodes old line new = StepsNodes old line new
 StepsFrom Done old line new = ⊥
 
 -- what is wrong with a line in each phase
 abbrev pub SlipsFrom : CertPhase → CertReader → List ℕ → Slip → ℕ → Type 0
 SlipsFrom First old line slip back = SlipsFirst line slip back
-SlipsFrom Head old line slip back = SlipsHead line slip back
-SlipsFrom Vertices old line slip back = SlipsVertices old line slip back
+SlipsFrom Polygon old line slip back = SlipsInPolygon old line slip back
 SlipsFrom Nodes old line slip back = SlipsNodes old line slip back
 SlipsFrom Done old line slip back = ⊥
 
@@ -104,11 +96,11 @@ CertEnds reader = reader.phase ≡ Done
 
 -- a reader before the first line
 abbrev pub cert_start : CertReader
-cert_start = record { phase = First; ring = record { left = 0; vertices = []; region = None }; tree = no_tree }
+cert_start = record { phase = First; outline = no_outline; tree = no_tree }
 
 -- what was read
 abbrev pub read_view : CertReader → CertView
-read_view reader = record { vertices = reader.ring.vertices; limits = reader.tree.limits; events = reader.tree.events }
+read_view reader = record { vertices = reader.outline.ring.vertices; limits = reader.tree.limits; events = reader.tree.events }
 
 -- line by line, the text gives this certificate
 abbrev pub ReadsAsCert : List ℕ → CertView → Type 0
@@ -117,6 +109,10 @@ ReadsAsCert text c = (last : CertReader) × IsRead CertSteps CertEnds cert_start
 -- the first slip of the text, and its line
 abbrev pub FirstCertSlip : List ℕ → ℕ → Slip → Type 0
 FirstCertSlip text line slip = SlipsAt CertSteps CertSlips CertEnds cert_start text line slip
+
+-- the text is that of a certificate, or has a first slip
+abbrev pub IsCertOrSlips : List ℕ → Type 0
+IsCertOrSlips text = ((c : CertView) × SpellsCertificate text c) ⊎ ((line : ℕ) × (slip : Slip) × FirstCertSlip text line slip)
 
 -- the first slip of the text, or want of memory
 abbrev pub IsCertRefusal : List ℕ → FileErr → Type 0

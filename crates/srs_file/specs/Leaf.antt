@@ -1,4 +1,5 @@
 -- The lines of an inside leaf: how many witnesses it has, and one line a witness.
+use Rattle.srs_path.specs.declared.limits.TheConstants.{MOST_WITNESSES}
 use Rattle.std.specs.Prelude.{◌≡◌, ◌⊎◌, ℕ, ◌+◌, ◌-◌, ◌≤◌, ℤ, pos, ◌≤ℤ◌, List, [], ◌∷◌, ◌++◌, length, All, AllPairs, codes}
 use Rattle.srs_num.specs.declared.pairs.V2.{V2}
 use Rattle.srs_map.specs.Step.{IsNarrow}
@@ -15,14 +16,14 @@ pub record LeafView : Type 0 where
 -- what a leaf keeps while it is read: its pairs ascend, pairs and ranks are in their ranges, and there aren't too many
 pub record IsGrowingLeaf (left : ℕ) (pairs : List V2) (ranks : List ℤ) : Type 0 where
   pub same : length pairs ≡ length ranks
-  pub room : length pairs + left ≤ 16384
+  pub room : length pairs + left ≤ MOST_WITNESSES
   pub ascending : AllPairs Precedes pairs
   pub narrow : All IsNarrow pairs
-  pub within : All (λ z. (pos 0 ≤ℤ z) × (z ≤ℤ pos 16384)) ranks
+  pub within : All (λ z. (pos 0 ≤ℤ z) × (z ≤ℤ pos MOST_WITNESSES)) ranks
 
--- the pair's entries are within 2^37, and the rank is 0 to 16384
+-- the pair is narrow, and the rank isn't below 0, nor above the most witnesses of a cell
 abbrev pub IsEntry : V2 → ℤ → Type 0
-IsEntry w z = IsNarrow w × (pos 0 ≤ℤ z) × (z ≤ℤ pos 16384)
+IsEntry w z = IsNarrow w × (pos 0 ≤ℤ z) × (z ≤ℤ pos MOST_WITNESSES)
 
 -- the line says the pair and its rank, in their ranges
 abbrev pub SaysEntry : V2 → ℤ → List ℕ → Type 0

@@ -1,11 +1,9 @@
-pub mod Texts
-pub mod Certificates
-pub mod Heights
-pub mod Sayings
 pub mod Questions
 pub mod Grammar
 pub mod Ring
+pub mod Outline
 pub mod PolygonReading
+pub mod LiveReading
 pub mod Leaf
 pub mod TreeReading
 pub mod CertReading

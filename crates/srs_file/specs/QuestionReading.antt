@@ -10,7 +10,7 @@ use Rattle.srs_line.specs.declared.slip.Slip.TheVariants.{Word, Range}
 use Rattle.srs_line.specs.Fields.{Says, HasWord, IsFieldSlip}
 use Rattle.srs_file.specs.declared.questions.Questions.{Questions}
 use Rattle.srs_file.specs.Ring.{RingView, no_ring, Opens, IsOpenSlip, TakesVertex, SlipsVertex}
-use Rattle.srs_file.specs.Sayings.{place_numbers}
+use Rattle.srs_cert.specs.Sayings.{place_numbers}
 use Rattle.srs_file.specs.Questions.{orbit_numbers}
 use Rattle.srs_tree.specs.Questions.{IsOrbitAsked}
 

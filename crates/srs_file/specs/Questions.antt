@@ -8,8 +8,8 @@ use Rattle.srs_tree.specs.declared.queries.Query.{Query}
 use Rattle.srs_tree.specs.declared.queries.Query.TheVariants.{Fresh, Count, Point, Polygon, Orbit}
 use Rattle.srs_tree.specs.Questions.{IsOrbitAsked}
 use Rattle.srs_line.specs.Fields.{line_of}
-use Rattle.srs_file.specs.Texts.{ended, vertices_text}
-use Rattle.srs_file.specs.Sayings.{place_text}
+use Rattle.srs_cert.specs.Texts.{ended, vertices_text}
+use Rattle.srs_cert.specs.Sayings.{place_text}
 
 -- the lines of a polygon that is asked about
 abbrev pub region_text : List Vertex → List ℕ

@@ -10,7 +10,7 @@ use Rattle.srs_plane.specs.Placed.{IsPlaced}
 use Rattle.srs_line.specs.declared.slip.Slip.{Slip}
 use Rattle.srs_line.specs.declared.slip.Slip.TheVariants.{Word, Count, Range, Turn}
 use Rattle.srs_line.specs.Fields.{Says, HasWord, IsFieldSlip, SaysCount, IsCountSlip}
-use Rattle.srs_file.specs.Texts.{kind_word}
+use Rattle.srs_cert.specs.Texts.{kind_word}
 
 -- what a ring is seen as while it is read: how many vertices are still to come, those that came, and the region once
 -- all of them are there

@@ -13,7 +13,7 @@ use Rattle.srs_line.specs.declared.slip.Slip.TheVariants.{Word, Count, Range}
 use Rattle.srs_line.specs.Fields.{Says, HasWord, IsFieldSlip, SaysCount, IsCountSlip}
 use Rattle.srs_line.specs.Many.{IsManySlip}
 use Rattle.srs_file.specs.declared.tree.Tree.{Tree}
-use Rattle.srs_file.specs.Texts.{cause_text}
+use Rattle.srs_cert.specs.Texts.{cause_text}
 use Rattle.srs_file.specs.Leaf.{LeafView, TakesEntry, SlipsEntry}
 
 -- the line of a left leaf

@@ -3,13 +3,17 @@ ghost use Rattle.std.specs.Prelude.{List, ℕ, ◌≡◌, ◌+◌, ◌^◌, ◌<
 ghost use Rattle.srs_tree.specs.declared.queries.Query.{Query};
 ghost use Rattle.srs_line.specs.declared.slip.Slip.{Slip};
 ghost use Rattle.srs_line.specs.Refusal.{IsSlip};
-ghost use Rattle.srs_file.specs.Certificates.{CertView};
+ghost use Rattle.srs_cert.specs.Certificates.{CertView};
 ghost use Rattle.srs_file.specs.Grammar.{SpellsAsk};
 ghost use Rattle.srs_file.specs.QuestionReading.{SlipsQuestion};
-ghost use Rattle.srs_file.specs.AskReading.{ask_start, EndsHere, StepsAsking, ReadsAsAsk, FirstAskSlip, IsAskRefusal, IsNoAsk};
+ghost use Rattle.srs_file.specs.AskReading.{ask_start, EndsHere, StepsAsking, ReadsAsAsk, FirstAskSlip, IsAskOrSlips, IsAskRefusal, IsNoAsk};
 
-use crate::{Cert, CertReader, Questions};
-use srs_line::{FileErr, LineErr, LineMachine, Slip, never_both, one_slip, read_lines, read_once};
+use crate::{CertReader, Questions};
+use srs_cert::Cert;
+use srs_line::{
+    FileErr, LineErr, LineMachine, Slip, never_both, one_slip, read_lines, read_once,
+    read_or_slips,
+};
 use srs_tree::Queries;
 use std::alloc::Global;
 
@@ -78,17 +82,15 @@ pub fn read_ask(alloc: Global, text: &[u8]) -> Result<(Cert, Queries), FileErr>
 {
     let mut reader = AskReader::new(alloc);
     read_lines(&mut reader, text)?;
-    match reader.cert.into_cert(alloc) {
-        Ok(cert) => Ok((cert, reader.questions.queries)),
-        Err(_) => Err(FileErr::NoMemory),
-    }
+    Ok((reader.cert.into_cert(alloc)?, reader.questions.queries))
 }
 
-/// A text is a certificate with questions or has a first slip, never both; it has one first slip, and spells one certificate
+/// A text is a certificate with questions or has a first slip, one of the two and never both; it has one first slip, and spells one certificate
 /// and one list of questions; and it is read as these exactly where it spells them.
 pub fn one_ask_input()
     ensures never_both { (text : List ℕ) (c : CertView) (queries : List Query) (line : ℕ) (slip : Slip) → SpellsAsk text c queries → FirstAskSlip text line slip → ⊥ }
     ensures one_slip { (text : List ℕ) (m n : ℕ) (d e : Slip) → FirstAskSlip text m d → FirstAskSlip text n e → (m ≡ n) × (d ≡ e) }
+    ensures either { (text : List ℕ) → IsAskOrSlips text }
     ensures one_value { (text : List ℕ) (b c : CertView) (ps qs : List Query) → SpellsAsk text b ps → SpellsAsk text c qs → (b ≡ c) × (ps ≡ qs) }
     ensures spelled { (text : List ℕ) (c : CertView) (queries : List Query) → ReadsAsAsk text c queries → SpellsAsk text c queries }
     ensures read { (text : List ℕ) (c : CertView) (queries : List Query) → SpellsAsk text c queries → ReadsAsAsk text c queries }
@@ -96,4 +98,5 @@ pub fn one_ask_input()
     never_both::<AskReader>();
     one_slip::<AskReader>();
     read_once::<AskReader>();
+    read_or_slips::<AskReader>();
 }

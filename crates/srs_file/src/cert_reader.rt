@@ -4,24 +4,26 @@ ghost use Rattle.srs_path.specs.Views.{Budget, IsBudget};
 ghost use Rattle.srs_line.specs.declared.slip.Slip.{Slip};
 ghost use Rattle.srs_line.specs.Refusal.{IsSlip};
 ghost use Rattle.srs_file.specs.Grammar.{SpellsCertificate};
-ghost use Rattle.srs_file.specs.Certificates.{CertView, IsCertificate, cert_text};
-ghost use Rattle.srs_file.specs.CertReading.{cert_start, read_view, StepsFirst, SlipsFirst, StepsHead, SlipsHead, SaysLimits, AreNoLimits, IsLimitsSlip, StepsLimits, StepsVertices, SlipsVertices, StepsNodes, SlipsNodes, ReadsAsCert, FirstCertSlip, IsCertRefusal, IsNoCert};
+ghost use Rattle.srs_cert.specs.Certificates.{CertView, IsCertificate, cert_text};
+ghost use Rattle.srs_file.specs.CertReading.{cert_start, read_view, StepsFirst, SlipsFirst, StepsInPolygon, SlipsInPolygon, SaysLimits, AreNoLimits, IsLimitsSlip, StepsLimits, StepsNodes, SlipsNodes, ReadsAsCert, FirstCertSlip, IsCertOrSlips, IsCertRefusal, IsNoCert};
 
-use crate::{Cert, Ring, Tree};
+use crate::polygon_reader::end;
+use crate::{Outline, Tree};
+use srs_cert::Cert;
 use srs_line::{
-    FileErr, LineErr, LineMachine, Slip, never_both, one, one_slip, read_lines, read_once, three,
+    FileErr, LineErr, LineMachine, Slip, never_both, one, one_slip, read_lines, read_once,
+    read_or_slips, three,
 };
 use srs_num::NoMemory;
 use srs_path::Limits;
 use std::alloc::Global;
 
-/// What a reader of a certificate waits for: the version, the number of vertices, a vertex or the limits, a line of the
-/// tree or the last line, or nothing.
+/// What a reader of a certificate waits for: the version, a line of the polygon or the limits, a line of the tree or the
+/// last line, or nothing.
 #[derive(Clone, Copy, Debug, PartialEq, Eq)]
 pub enum CertPhase {
     First,
-    Head,
-    Vertices,
+    Polygon,
     Nodes,
     Done,
 }
@@ -30,7 +32,7 @@ pub enum CertPhase {
 #[derive(Drop)]
 pub struct CertReader {
     pub phase: CertPhase,
-    pub ring: Ring,
+    pub outline: Outline,
     pub tree: Tree,
 }
 
@@ -41,7 +43,7 @@ impl CertReader {
     {
         CertReader {
             phase: CertPhase::First,
-            ring: Ring::new(alloc),
+            outline: Outline::new(alloc),
             tree: Tree::new(alloc),
         }
     }
@@ -51,7 +53,7 @@ impl CertReader {
         requires { IsCertificate (read_view self) }
         ensures { IfOk result (λ c. c ≡ read_view self) }
     {
-        let (vertices, _) = self.ring.into_parts();
+        let (vertices, _) = self.outline.into_parts();
         let (limits, events) = self.tree.into_parts();
         Cert::new(alloc, vertices.as_slice(), limits, events)
     }
@@ -60,37 +62,19 @@ impl CertReader {
         ensures ok { OnOk result (StepsFirst self.old line.now self.new) }
         ensures err { IfErr result (IsSlip (SlipsFirst line.now)) }
     {
-        match one(line, b"srs") {
-            Ok(version) => {
-                if version != 1 {
-                    return Err(LineErr::Slip(Slip::Version, 0));
-                }
-                self.phase = CertPhase::Head;
-                Ok(())
-            }
-            Err(slip) => Err(LineErr::Slip(slip, 0)),
+        if one(line, b"srs")? != 1 {
+            return Err(LineErr::Slip(Slip::Version, 0));
         }
+        self.phase = CertPhase::Polygon;
+        Ok(())
     }
 
-    fn head(&mut self, line: &[u8]) -> Result<(), LineErr>
-        ensures ok { OnOk result (StepsHead self.old line.now self.new) }
-        ensures err { IfErr result (IsSlip (SlipsHead line.now)) }
+    fn polygon(&mut self, line: &[u8]) -> Result<(), LineErr>
+        ensures ok { OnOk result (StepsInPolygon self.old line.now self.new) }
+        ensures err { IfErr result (IsSlip (SlipsInPolygon self.old line.now)) }
     {
-        match self.ring.open(b"polygon", line) {
-            Ok(()) => {
-                self.phase = CertPhase::Vertices;
-                Ok(())
-            }
-            Err(slip) => Err(LineErr::Slip(slip, 0)),
-        }
-    }
-
-    fn vertex(&mut self, line: &[u8]) -> Result<(), LineErr>
-        ensures ok { OnOk result (StepsVertices self.old line.now self.new) }
-        ensures err { IfErr result (IsSlip (SlipsVertices self.old line.now)) }
-    {
-        if self.ring.wants_more() {
-            return self.ring.take(line);
+        if !self.outline.is_whole() {
+            return self.outline.take(line);
         }
         self.limits(line)
     }
@@ -99,17 +83,9 @@ impl CertReader {
         ensures ok { OnOk result (StepsLimits self.old line.now self.new) }
         ensures err { IfErr result (IsSlip (λ slip back. IsLimitsSlip line.now slip × (back ≡ 0))) }
     {
-        let limits = match limits(line) {
-            Ok(limits) => limits,
-            Err(slip) => return Err(LineErr::Slip(slip, 0)),
-        };
-        match self.tree.plant(limits) {
-            Ok(()) => {
-                self.phase = CertPhase::Nodes;
-                Ok(())
-            }
-            Err(_) => Err(LineErr::NoMemory),
-        }
+        self.tree.plant(limits(line)?)?;
+        self.phase = CertPhase::Nodes;
+        Ok(())
     }
 
     fn node(&mut self, line: &[u8]) -> Result<(), LineErr>
@@ -119,9 +95,7 @@ impl CertReader {
         if !self.tree.is_whole() {
             return self.tree.take(line);
         }
-        if line != b"end".as_slice() {
-            return Err(LineErr::Slip(Slip::Word, 0));
-        }
+        end(line)?;
         self.phase = CertPhase::Done;
         Ok(())
     }
@@ -143,8 +117,7 @@ impl LineMachine for CertReader {
     fn take(&mut self, line: &[u8]) -> Result<(), LineErr> {
         match self.phase {
             CertPhase::First => self.first(line),
-            CertPhase::Head => self.head(line),
-            CertPhase::Vertices => self.vertex(line),
+            CertPhase::Polygon => self.polygon(line),
             CertPhase::Nodes => self.node(line),
             CertPhase::Done => unreachable!(),
         }
@@ -156,10 +129,7 @@ fn limits(line: &[u8]) -> Result<Limits, Slip>
     ensures ok { IfOk result (λ b. SaysLimits b line.now) }
     ensures err { IfErr result (IsLimitsSlip line.now) }
 {
-    let said = match three(line, b"limits") {
-        Ok(said) => said,
-        Err(slip) => return Err(slip),
-    };
+    let said = three(line, b"limits")?;
     match limits_of(said.0, said.1, said.2) {
         Some(limits) => Ok(limits),
         None => Err(Slip::Range),
@@ -171,10 +141,10 @@ fn limits_of(depth: i64, cells: i64, wits: i64) -> Option<Limits>
     ensures some { IfSome result (λ b. (depth ≡ pos b.depth) × (cells ≡ pos b.cells) × (wits ≡ pos b.wits) × IsBudget b) }
     ensures none { IfNone result (AreNoLimits depth cells wits) }
 {
-    if depth < 0 || depth > 48 || cells < 0 || cells > 65536 || wits < 0 || wits > 16384 {
-        return None;
-    }
-    Limits::new(depth as u32, cells as u32, wits as u32)
+    let depth = u32::try_from(depth).ok()?;
+    let cells = u32::try_from(cells).ok()?;
+    let wits = u32::try_from(wits).ok()?;
+    Limits::new(depth, cells, wits)
 }
 
 /// The certificate that the text spells, or the first slip of the text, its lines counted from 1. The text is shorter than
@@ -187,17 +157,15 @@ pub fn read_cert(alloc: Global, text: &[u8]) -> Result<Cert, FileErr>
 {
     let mut reader = CertReader::new(alloc);
     read_lines(&mut reader, text)?;
-    match reader.into_cert(alloc) {
-        Ok(cert) => Ok(cert),
-        Err(_) => Err(FileErr::NoMemory),
-    }
+    Ok(reader.into_cert(alloc)?)
 }
 
-/// A text is that of a certificate or has a first slip, never both; it has one first slip, and spells one certificate; and
+/// A text is that of a certificate or has a first slip, one of the two and never both; it has one first slip, and spells one certificate; and
 /// it is read as this certificate exactly where it spells it. So the one text of a certificate is read as that certificate.
 pub fn one_certificate()
     ensures never_both { (text : List ℕ) (c : CertView) (line : ℕ) (slip : Slip) → SpellsCertificate text c → FirstCertSlip text line slip → ⊥ }
     ensures one_slip { (text : List ℕ) (m n : ℕ) (d e : Slip) → FirstCertSlip text m d → FirstCertSlip text n e → (m ≡ n) × (d ≡ e) }
+    ensures either { (text : List ℕ) → IsCertOrSlips text }
     ensures one_value { (text : List ℕ) (b c : CertView) → SpellsCertificate text b → SpellsCertificate text c → b ≡ c }
     ensures spelled { (text : List ℕ) (c : CertView) → ReadsAsCert text c → SpellsCertificate text c }
     ensures read { (text : List ℕ) (c : CertView) → SpellsCertificate text c → ReadsAsCert text c }
@@ -206,4 +174,5 @@ pub fn one_certificate()
     never_both::<CertReader>();
     one_slip::<CertReader>();
     read_once::<CertReader>();
+    read_or_slips::<CertReader>();
 }

@@ -46,10 +46,7 @@ impl PathStack {
         ensures ok { OnOk result (self.new ≡ path ∷ self.old) }
         ensures err { IfErr result (IsSlip (λ slip back. ⊥)) }
     {
-        match self.paths.push(path) {
-            Ok(()) => Ok(()),
-            Err(_) => Err(LineErr::NoMemory),
-        }
+        Ok(self.paths.push(path)?)
     }
 
     /// The next path, which waits no longer.
@@ -96,13 +93,11 @@ impl Events {
         ensures ok { OnOk result (self.new ≡ self.old ++ at_path path outcome ∷ []) }
         ensures err { IfErr result (IsSlip (λ slip back. ⊥)) }
     {
-        let Ok(outcome) = Arc::new(self.alloc, outcome) else {
+        let outcome = Arc::new(self.alloc, outcome)?;
+        let Ok(()) = self.journal.push(Event { path, outcome }) else {
             return Err(LineErr::NoMemory);
         };
-        match self.journal.push(Event { path, outcome }) {
-            Ok(()) => Ok(()),
-            Err(_) => Err(LineErr::NoMemory),
-        }
+        Ok(())
     }
 
     pub fn into_journal(self) -> Journal

@@ -1,13 +1,15 @@
 // An inside leaf, read line by line.
 ghost use Rattle.std.specs.Prelude.{◌≡◌, ◌↔◌, ◌+◌, ◌-◌, ◌<◌, ◌≤◌, ◌++◌, [], ◌∷◌, ℕ, ℤ, pos, length, IsTrue, IfOk, IfErr, OnOk, codes};
+ghost use Rattle.srs_path.specs.declared.limits.TheConstants.{MOST_WITNESSES};
 ghost use Rattle.srs_path.specs.Core.{Precedes};
 ghost use Rattle.srs_line.specs.Fields.{Says, IsFieldSlip};
 ghost use Rattle.srs_line.specs.Refusal.{IsSlip};
 ghost use Rattle.srs_file.specs.Leaf.{IsEntry, SaysEntry, IsEntrySlip, Follows, TakesEntry, SlipsEntry};
 
 use srs_line::{LineErr, Slip, three};
+use srs_map::is_narrow;
 use srs_num::{Pairs, V2};
-use srs_path::Ranks;
+use srs_path::{MOST_WITNESSES, Ranks};
 use srs_text::Nums;
 use std::alloc::Global;
 use std::marker::Model;
@@ -41,9 +43,9 @@ impl Leaf {
         Leaf::awaiting(alloc, 0)
     }
 
-    /// A leaf to which so many witnesses come, at most 16384. It takes no memory.
+    /// A leaf to which so many witnesses come, at most `MOST_WITNESSES`. It takes no memory.
     fn awaiting(alloc: Global, n: u32) -> Leaf
-        requires { n ≤ 16384 }
+        requires { n ≤ MOST_WITNESSES }
         ensures { result ≡ record { left = n; entries = [] } }
     {
         Leaf {
@@ -61,9 +63,9 @@ impl Leaf {
         self.left
     }
 
-    /// Begins anew, with so many witnesses to come, at most 16384. It takes no memory.
+    /// Begins anew, with so many witnesses to come, at most `MOST_WITNESSES`. It takes no memory.
     pub fn open(&mut self, n: u32)
-        requires { n ≤ 16384 }
+        requires { n ≤ MOST_WITNESSES }
         ensures { self.new ≡ record { left = n; entries = [] } }
     {
         *self = Leaf::awaiting(self.alloc, n);
@@ -75,10 +77,7 @@ impl Leaf {
         ensures ok { OnOk result (TakesEntry self.old line.now self.new) }
         ensures err { IfErr result (IsSlip (SlipsEntry self.old line.now)) }
     {
-        let (pair, rank) = match entry(line) {
-            Ok(entry) => entry,
-            Err(slip) => return Err(LineErr::Slip(slip, 0)),
-        };
+        let (pair, rank) = entry(line)?;
         if !self.precedes(&pair) {
             return Err(LineErr::Slip(Slip::Order, 0));
         }
@@ -143,10 +142,7 @@ fn entry(line: &[u8]) -> Result<(V2, i64), Slip>
     ensures ok { IfOk result (λ r. SaysEntry r.0 r.1 line.now) }
     ensures err { IfErr result (IsEntrySlip line.now) }
 {
-    let (pair, rank) = match said_entry(line) {
-        Ok(entry) => entry,
-        Err(slip) => return Err(slip),
-    };
+    let (pair, rank) = said_entry(line)?;
     if !is_entry(&pair, rank) {
         return Err(Slip::Range);
     }
@@ -158,16 +154,12 @@ fn said_entry(line: &[u8]) -> Result<(V2, i64), Slip>
     ensures ok { IfOk result (λ r. Says (codes "w") (r.0.a ∷ r.0.b ∷ r.1 ∷ []) line.now) }
     ensures err { IfErr result (IsFieldSlip (codes "w") 3 line.now) }
 {
-    match three(line, b"w") {
-        Ok((a, b, rank)) => Ok((V2 { a, b }, rank)),
-        Err(slip) => Err(slip),
-    }
+    let (a, b, rank) = three(line, b"w")?;
+    Ok((V2 { a, b }, rank))
 }
 
 fn is_entry(pair: &V2, rank: i64) -> bool
     ensures { IsTrue result ↔ IsEntry pair.now rank }
 {
-    const MOST: i64 = 1 << 37;
-    let narrow = -MOST <= pair.a && pair.a <= MOST && -MOST <= pair.b && pair.b <= MOST;
-    narrow && 0 <= rank && rank <= 16384
+    is_narrow(*pair) && 0 <= rank && rank <= i64::from(MOST_WITNESSES)
 }

@@ -3,9 +3,10 @@
 
 mod ask_reader;
 mod cert_reader;
-mod certificates;
 mod gathered;
 mod leaf;
+mod live_reader;
+mod outline;
 mod polygon_reader;
 mod questions;
 mod ring;
@@ -14,12 +15,13 @@ mod vertex;
 
 pub use ask_reader::{AskReader, one_ask_input, read_ask};
 pub use cert_reader::{CertPhase, CertReader, one_certificate, read_cert};
-pub use certificates::Cert;
 pub use gathered::{Events, PathStack};
 pub use leaf::Leaf;
-pub use polygon_reader::{Phase, PolygonReader, one_polygon, read_polygon};
+pub use live_reader::{one_live_input, one_live_text, read_live};
+pub use outline::Outline;
+pub use polygon_reader::{PolygonReader, one_polygon, read_polygon};
 pub use questions::Questions;
 pub use ring::Ring;
+pub use srs_cert::{Cert, word_of};
 pub use srs_line::{FileErr, Slip};
 pub use tree::Tree;
-pub use vertex::word_of;

@@ -1,33 +1,27 @@
 // Reads the text of a polygon.
-ghost use Rattle.std.specs.Prelude.{List, ℕ, ◌≡◌, ◌+◌, ◌^◌, ◌<◌, ◌↔◌, IsTrue, OnOk, IfOk, IfErr, length};
+ghost use Rattle.std.specs.Prelude.{List, ℕ, ◌≡◌, ◌≢◌, ◌+◌, ◌^◌, ◌<◌, codes, OnOk, IfOk, IfErr, length};
 ghost use Rattle.srs_plane.specs.declared.polygons.Vertex.{Vertex};
 ghost use Rattle.srs_plane.specs.Regions.{HasPoint};
 ghost use Rattle.srs_plane.specs.Polygons.{region_of};
 ghost use Rattle.srs_line.specs.declared.slip.Slip.{Slip};
-ghost use Rattle.srs_line.specs.Refusal.{IsSlip};
+ghost use Rattle.srs_line.specs.declared.slip.Slip.TheVariants.{Word};
 ghost use Rattle.srs_file.specs.Grammar.{SpellsPolygon};
-ghost use Rattle.srs_file.specs.PolygonReading.{start, StepsHead, SlipsHead, StepsVertices, SlipsVertices, ReadsAs, FirstSlip, IsRefusal, IsOutside};
+ghost use Rattle.srs_file.specs.PolygonReading.{start, ReadsAs, FirstSlip, IsPolygonOrSlips, IsRefusal, IsOutside};
 
-use crate::Ring;
+use crate::Outline;
 use srs_cell::Cell;
-use srs_line::{FileErr, LineErr, LineMachine, Slip, never_both, one_slip, read_lines, read_once};
+use srs_line::{
+    FileErr, LineErr, LineMachine, Slip, never_both, one_slip, read_lines, read_once, read_or_slips,
+};
 use srs_num::NoMemory;
 use srs_plane::{Region, Vertices};
 use std::alloc::Global;
 
-/// What a reader of a polygon waits for: the number of vertices, a vertex or the last line, or nothing.
-#[derive(Clone, Copy, Debug, PartialEq, Eq)]
-pub enum Phase {
-    Head,
-    Vertices,
-    Done,
-}
-
-/// A reader of the text of a polygon, which takes it line by line.
+/// A reader of the text of a polygon, which takes it line by line. It has ended with the line behind the last vertex.
 #[derive(Drop)]
 pub struct PolygonReader {
-    pub phase: Phase,
-    pub ring: Ring,
+    pub outline: Outline,
+    pub ended: bool,
 }
 
 impl PolygonReader {
@@ -36,36 +30,9 @@ impl PolygonReader {
         ensures { result ≡ start }
     {
         PolygonReader {
-            phase: Phase::Head,
-            ring: Ring::new(alloc),
+            outline: Outline::new(alloc),
+            ended: false,
         }
-    }
-
-    fn head(&mut self, line: &[u8]) -> Result<(), LineErr>
-        ensures ok { OnOk result (StepsHead self.old line.now self.new) }
-        ensures err { IfErr result (IsSlip (SlipsHead line.now)) }
-    {
-        match self.ring.open(b"polygon", line) {
-            Ok(()) => {
-                self.phase = Phase::Vertices;
-                Ok(())
-            }
-            Err(slip) => Err(LineErr::Slip(slip, 0)),
-        }
-    }
-
-    fn vertex(&mut self, line: &[u8]) -> Result<(), LineErr>
-        ensures ok { OnOk result (StepsVertices self.old line.now self.new) }
-        ensures err { IfErr result (IsSlip (SlipsVertices self.old line.now)) }
-    {
-        if self.ring.wants_more() {
-            return self.ring.take(line);
-        }
-        if line != b"end".as_slice() {
-            return Err(LineErr::Slip(Slip::Word, 0));
-        }
-        self.phase = Phase::Done;
-        Ok(())
     }
 }
 
@@ -79,16 +46,28 @@ impl LineMachine for PolygonReader {
     ghost is_end = { IsEnd };
 
     fn is_done(&self) -> bool {
-        self.phase == Phase::Done
+        self.ended
     }
 
     fn take(&mut self, line: &[u8]) -> Result<(), LineErr> {
-        match self.phase {
-            Phase::Head => self.head(line),
-            Phase::Vertices => self.vertex(line),
-            Phase::Done => unreachable!(),
+        if !self.outline.is_whole() {
+            return self.outline.take(line);
         }
+        end(line)?;
+        self.ended = true;
+        Ok(())
     }
+}
+
+// The line `end`. It takes no memory.
+pub(crate) fn end(line: &[u8]) -> Result<(), Slip>
+    ensures ok { OnOk result (line.now ≡ codes "end") }
+    ensures err { IfErr result (λ slip. (line.now ≢ codes "end") × (slip ≡ Word)) }
+{
+    if line != b"end".as_slice() {
+        return Err(Slip::Word);
+    }
+    Ok(())
 }
 
 /// The vertices of the polygon that the text spells, and the cell of its region; or the first slip of the text, its lines
@@ -101,14 +80,11 @@ pub fn read_polygon(alloc: Global, text: &[u8]) -> Result<(Vertices, Cell), File
 {
     let mut reader = PolygonReader::new(alloc);
     read_lines(&mut reader, text)?;
-    let (vertices, region) = reader.ring.into_parts();
-    match region {
-        Some(region) => match inhabited(alloc, region) {
-            Ok(cell) => Ok((vertices, cell)),
-            Err(_) => Err(FileErr::NoMemory),
-        },
-        None => unreachable!(),
-    }
+    let (vertices, region) = reader.outline.into_parts();
+    let Some(region) = region else {
+        unreachable!()
+    };
+    Ok((vertices, inhabited(alloc, region)?))
 }
 
 // The cell of a region that has a point. An `Err` is want of memory.
@@ -123,11 +99,12 @@ pub(crate) fn inhabited(alloc: Global, region: Region) -> Result<Cell, NoMemory>
     }
 }
 
-/// A text is that of a polygon or has a first slip, never both; it has one first slip, and spells one list of vertices;
+/// A text is that of a polygon or has a first slip, one of the two and never both; it has one first slip, and spells one list of vertices;
 /// and it is read as these vertices exactly where it spells them.
 pub fn one_polygon()
     ensures never_both { (text : List ℕ) (vs : List Vertex) (line : ℕ) (slip : Slip) → SpellsPolygon text vs → FirstSlip text line slip → ⊥ }
     ensures one_slip { (text : List ℕ) (m n : ℕ) (d e : Slip) → FirstSlip text m d → FirstSlip text n e → (m ≡ n) × (d ≡ e) }
+    ensures either { (text : List ℕ) → IsPolygonOrSlips text }
     ensures one_list { (text : List ℕ) (vs ws : List Vertex) → SpellsPolygon text vs → SpellsPolygon text ws → vs ≡ ws }
     ensures spelled { (text : List ℕ) (vs : List Vertex) → ReadsAs text vs → SpellsPolygon text vs }
     ensures read { (text : List ℕ) (vs : List Vertex) → SpellsPolygon text vs → ReadsAs text vs }
@@ -135,4 +112,5 @@ pub fn one_polygon()
     never_both::<PolygonReader>();
     one_slip::<PolygonReader>();
     read_once::<PolygonReader>();
+    read_or_slips::<PolygonReader>();
 }

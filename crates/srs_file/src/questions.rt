@@ -13,7 +13,7 @@ ghost use Rattle.srs_file.specs.QuestionReading.{no_questions, Asks, SaysPlace, 
 use crate::Ring;
 use crate::polygon_reader::inhabited;
 use srs_line::{LineErr, Slip, has_word, six, three};
-use srs_map::is_narrow;
+use srs_map::{MOST_STEPS, is_narrow};
 use srs_num::{Pt, V2};
 use srs_tree::{Queries, Query};
 use std::alloc::Global;
@@ -68,10 +68,7 @@ impl Questions {
         ensures ok { OnOk result (StepsVertex self.old line.now self.new) }
         ensures err { IfErr result (IsSlip (SlipsVertex self.old.ring line.now)) }
     {
-        match self.ring.take(line) {
-            Ok(()) => {}
-            Err(e) => return Err(e),
-        }
+        self.ring.take(line)?;
         if self.ring.wants_more() {
             return Ok(());
         }
@@ -87,40 +84,30 @@ impl Questions {
         let Some(region) = self.ring.close() else {
             unreachable!();
         };
-        match inhabited(self.ring.alloc(), region) {
-            Ok(cell) => self.ask(Query::Polygon(cell)),
-            Err(_) => Err(LineErr::NoMemory),
-        }
+        let cell = inhabited(self.ring.alloc(), region)?;
+        self.ask(Query::Polygon(cell))
     }
 
     fn point(&mut self, line: &[u8]) -> Result<(), LineErr>
         ensures ok { OnOk result (StepsPoint self.old line.now self.new) }
         ensures err { IfErr result (IsSlip (λ slip back. IsPlaceSlip line.now slip × (back ≡ 0))) }
     {
-        match place(line) {
-            Ok(r) => self.ask(Query::Point(r)),
-            Err(slip) => Err(LineErr::Slip(slip, 0)),
-        }
+        self.ask(Query::Point(place(line)?))
     }
 
     fn region(&mut self, line: &[u8]) -> Result<(), LineErr>
         ensures ok { OnOk result (StepsRegion self.old line.now self.new) }
         ensures err { IfErr result (IsSlip (λ slip back. IsOpenSlip (codes "region") line.now slip × (back ≡ 0))) }
     {
-        match self.ring.open(b"region", line) {
-            Ok(()) => Ok(()),
-            Err(slip) => Err(LineErr::Slip(slip, 0)),
-        }
+        Ok(self.ring.open(b"region", line)?)
     }
 
     fn orbit(&mut self, line: &[u8]) -> Result<(), LineErr>
         ensures ok { OnOk result (StepsOrbit self.old line.now self.new) }
         ensures err { IfErr result (IsSlip (λ slip back. IsOrbitSlip line.now slip × (back ≡ 0))) }
     {
-        match orbit(line) {
-            Ok((r, pair, steps)) => self.ask(Query::Orbit(r, pair, steps)),
-            Err(slip) => Err(LineErr::Slip(slip, 0)),
-        }
+        let (r, pair, steps) = orbit(line)?;
+        self.ask(Query::Orbit(r, pair, steps))
     }
 
     // Puts the question at the end.
@@ -129,10 +116,12 @@ impl Questions {
         ensures ok { OnOk result (Asks self.old query self.new) }
         ensures err { IfErr result (IsSlip (λ slip back. ⊥)) }
     {
-        match self.queries.push(query) {
-            Ok(()) => Ok(()),
-            Err(_) => Err(LineErr::NoMemory),
-        }
+        // Each question so far is askable.
+        let _ = self.queries.len();
+        let Ok(()) = self.queries.push(query) else {
+            return Err(LineErr::NoMemory);
+        };
+        Ok(())
     }
 }
 
@@ -141,10 +130,7 @@ fn place(line: &[u8]) -> Result<Pt, Slip>
     ensures ok { IfOk result (λ r. SaysPlace r line.now) }
     ensures err { IfErr result (IsPlaceSlip line.now) }
 {
-    let said = match three(line, b"point") {
-        Ok(said) => said,
-        Err(slip) => return Err(slip),
-    };
+    let said = three(line, b"point")?;
     match Pt::new(said.0, said.1, said.2) {
         Some(r) => Ok(r),
         None => Err(Slip::Range),
@@ -156,17 +142,12 @@ fn orbit(line: &[u8]) -> Result<(Pt, V2, u32), Slip>
     ensures ok { IfOk result (λ o. SaysOrbit o.0 o.1 o.2 line.now) }
     ensures err { IfErr result (IsOrbitSlip line.now) }
 {
-    let said = match six(line, b"orbit") {
-        Ok(said) => said,
-        Err(slip) => return Err(slip),
-    };
+    let said = six(line, b"orbit")?;
     match orbit_of(&said) {
         Some(orbit) => Ok(orbit),
         None => Err(Slip::Range),
     }
 }
-
-const MOST_STEPS: i64 = 100000;
 
 // The six numbers as an orbit that may be asked about.
 fn orbit_of(said: &(i64, i64, i64, i64, i64, i64)) -> Option<(Pt, V2, u32)>
@@ -176,7 +157,7 @@ fn orbit_of(said: &(i64, i64, i64, i64, i64, i64)) -> Option<(Pt, V2, u32)>
     let (p, q, d, a, b, steps) = *said;
     let r = Pt::new(p, q, d)?;
     let pair = V2 { a, b };
-    if !r.near() || !is_narrow(pair) || steps < 0 || steps > MOST_STEPS {
+    if !r.near() || !is_narrow(pair) || steps < 0 || steps > i64::from(MOST_STEPS) {
         return None;
     }
     Some((r, pair, steps as u32))

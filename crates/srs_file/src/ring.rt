@@ -64,18 +64,14 @@ impl Ring {
         ensures err { IfErr result (IsOpenSlip word.now line.now) }
         ensures kept { OnErr result (self.new ≡ self.old) }
     {
-        match count_of(line, word, 3, 16, Slip::Count) {
-            Ok(n) => {
-                *self = Ring {
-                    alloc: self.alloc,
-                    left: n,
-                    vertices: Vertices::new(self.alloc),
-                    region: None,
-                };
-                Ok(())
-            }
-            Err(slip) => Err(slip),
-        }
+        let left = count_of(line, word, 3, 16, Slip::Count)?;
+        *self = Ring {
+            alloc: self.alloc,
+            left,
+            vertices: Vertices::new(self.alloc),
+            region: None,
+        };
+        Ok(())
     }
 
     /// Takes the line of the next vertex; with that of the last one it makes the region. An `Err` may leave any ring.
@@ -84,10 +80,7 @@ impl Ring {
         ensures ok { OnOk result (TakesVertex self.old line.now self.new) }
         ensures err { IfErr result (IsSlip (SlipsVertex self.old line.now)) }
     {
-        match vertex(line) {
-            Ok(vertex) => self.add(vertex),
-            Err(slip) => Err(LineErr::Slip(slip, 0)),
-        }
+        self.add(vertex(line)?)
     }
 
     fn add(&mut self, vertex: Vertex) -> Result<(), LineErr>

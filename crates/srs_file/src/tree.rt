@@ -1,5 +1,6 @@
 // The tree of a certificate, read line by line.
 ghost use Rattle.std.specs.Prelude.{◌≡◌, ◌≢◌, ◌↔◌, ◌+◌, ◌<◌, ◌≤◌, ◌++◌, [], ◌∷◌, pos, ℤ, length, IsTrue, IfErr, IfSome, IfNone, OnOk, codes};
+ghost use Rattle.srs_path.specs.declared.limits.TheConstants.{MOST_DEPTH};
 ghost use Rattle.srs_path.specs.declared.paths.Side.TheVariants.{Ge as AtGe, Lt as AtLt};
 ghost use Rattle.srs_path.specs.declared.outcomes.Cause.{Cause};
 ghost use Rattle.srs_line.specs.Refusal.{IsSlip};
@@ -46,10 +47,7 @@ impl Tree {
     {
         let alloc = self.events.alloc();
         let mut pending = PathStack::new(alloc);
-        match pending.push(Path::root()) {
-            Ok(()) => {}
-            Err(e) => return Err(e),
-        }
+        pending.push(Path::root())?;
         *self = Tree {
             limits,
             cells: 1,
@@ -93,10 +91,7 @@ impl Tree {
         ensures ok { OnOk result (StepsEntry self.old line.now self.new) }
         ensures err { IfErr result (IsSlip (SlipsEntry self.old.leaf line.now)) }
     {
-        match self.leaf.take(line) {
-            Ok(()) => {}
-            Err(e) => return Err(e),
-        }
+        self.leaf.take(line)?;
         if self.leaf.left() > 0 {
             return Ok(());
         }
@@ -129,10 +124,8 @@ impl Tree {
         ensures ok { OnOk result (StepsCut self.old line.now self.new) }
         ensures err { IfErr result (IsSlip (SlipsCut self.old line.now)) }
     {
-        match three(line, b"cut") {
-            Ok(form) => self.cut_by(form.0, form.1, form.2),
-            Err(slip) => Err(LineErr::Slip(slip, 0)),
-        }
+        let (a, b, c) = three(line, b"cut")?;
+        self.cut_by(a, b, c)
     }
 
     fn cut_by(&mut self, a: i64, b: i64, c: i64) -> Result<(), LineErr>
@@ -168,18 +161,9 @@ impl Tree {
         if path.len() >= self.limits.depth() {
             return Err(LineErr::Slip(Slip::Range, 0));
         }
-        match self.pending.push(part(&path, Side::Lt)) {
-            Ok(()) => {}
-            Err(_) => return Err(LineErr::NoMemory),
-        }
-        match self.pending.push(part(&path, Side::Ge)) {
-            Ok(()) => {}
-            Err(_) => return Err(LineErr::NoMemory),
-        }
-        match self.events.add(path, Outcome::Cut(form)) {
-            Ok(()) => {}
-            Err(_) => return Err(LineErr::NoMemory),
-        }
+        self.pending.push(part(&path, Side::Lt))?;
+        self.pending.push(part(&path, Side::Ge))?;
+        self.events.add(path, Outcome::Cut(form))?;
         self.cells += 2;
         Ok(())
     }
@@ -188,13 +172,9 @@ impl Tree {
         ensures ok { OnOk result (StepsIn self.old line.now self.new) }
         ensures err { IfErr result (IsSlip (SlipsIn self.old line.now)) }
     {
-        match count_of(line, b"in", 1, self.limits.wits(), Slip::Count) {
-            Ok(n) => {
-                self.leaf.open(n);
-                Ok(())
-            }
-            Err(slip) => Err(LineErr::Slip(slip, 0)),
-        }
+        let n = count_of(line, b"in", 1, self.limits.wits(), Slip::Count)?;
+        self.leaf.open(n);
+        Ok(())
     }
 
     fn outside(&mut self, line: &[u8]) -> Result<(), LineErr>
@@ -203,10 +183,7 @@ impl Tree {
         ensures err { IfErr result (IsSlip (SlipsOut self.old line.now)) }
     {
         let mut entries = Nums::new(self.events.alloc());
-        let n = match numbers_of(line, b"out", &mut entries) {
-            Ok(n) => n,
-            Err(e) => return Err(e),
-        };
+        let n = numbers_of(line, b"out", &mut entries)?;
         if !counts(self.limits.wits(), n, &entries) {
             return Err(LineErr::Slip(Slip::Count, 0));
         }
@@ -250,9 +227,9 @@ fn least_limits() -> Limits
     }
 }
 
-// The path with one side more, for a path of fewer than 48.
+// The path with one side more, for a path that has room for it.
 fn part(path: &Path, side: Side) -> Path
-    requires { length path.now < 48 }
+    requires { length path.now < MOST_DEPTH }
     ensures { result ≡ path.now ++ side ∷ [] }
 {
     match path.child(side) {

@@ -2,9 +2,10 @@
 ghost use Rattle.std.specs.Prelude.{◌≡◌, [], ◌∷◌, IfOk, IfErr, IfSome, IfNone};
 ghost use Rattle.srs_plane.specs.declared.halves.Kind.{Kind};
 ghost use Rattle.srs_line.specs.Fields.{HasWord, Says, IsFieldSlip};
-ghost use Rattle.srs_file.specs.Texts.{kind_word};
+ghost use Rattle.srs_cert.specs.Texts.{kind_word};
 ghost use Rattle.srs_file.specs.Ring.{SaysVertex, IsVertexSlip};
 
+use srs_cert::word_of;
 use srs_line::{Slip, has_word, three};
 use srs_plane::{Kind, Vertex};
 
@@ -16,10 +17,7 @@ pub(crate) fn vertex(line: &[u8]) -> Result<Vertex, Slip>
     let Some(kind) = kind_of(line) else {
         return Err(Slip::Word);
     };
-    let vertex = match corner(line, kind) {
-        Ok(vertex) => vertex,
-        Err(slip) => return Err(slip),
-    };
+    let vertex = corner(line, kind)?;
     if !vertex.is_placed() {
         return Err(Slip::Range);
     }
@@ -46,18 +44,6 @@ fn corner(line: &[u8], kind: Kind) -> Result<Vertex, Slip>
     ensures ok { IfOk result (λ v. Says (kind_word kind) (v.p ∷ v.q ∷ v.d ∷ []) line.now) }
     ensures err { IfErr result (IsFieldSlip (kind_word kind) 3 line.now) }
 {
-    match three(line, word_of(kind)) {
-        Ok((p, q, d)) => Ok(Vertex { p, q, d, kind }),
-        Err(slip) => Err(slip),
-    }
-}
-
-/// The word that begins the line of a vertex.
-pub fn word_of(kind: Kind) -> &'static [u8]
-    ensures { result.now ≡ kind_word kind }
-{
-    match kind {
-        Kind::Ge => b"ge",
-        Kind::Gt => b"gt",
-    }
+    let (p, q, d) = three(line, word_of(kind))?;
+    Ok(Vertex { p, q, d, kind })
 }

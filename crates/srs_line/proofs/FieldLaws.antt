@@ -12,7 +12,7 @@ numbers_once (t ∷ ts) [] zs a b = absurd a
 numbers_once (t ∷ ts) (y ∷ ys) [] a b = absurd b
 numbers_once (t ∷ ts) (y ∷ ys) (z ∷ zs) a b = rw (number_once t y z a.0 b.0, numbers_once ts ys zs a.1 b.1) refl
 
-numbers_length : (ts : List (List ℕ)) (zs : List ℤ) → AreNumbers ts zs → length ts ≡ length zs
+pub numbers_length : (ts : List (List ℕ)) (zs : List ℤ) → AreNumbers ts zs → length ts ≡ length zs
 numbers_length [] [] a = refl
 numbers_length [] (z ∷ zs) a = absurd a
 numbers_length (t ∷ ts) [] a = absurd a

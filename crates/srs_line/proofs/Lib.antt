@@ -6,3 +6,5 @@ pub mod LineTexts
 pub mod FieldLaws
 pub mod ManyLemmas
 pub mod ManyLaws
+pub mod Decided
+pub mod Totals

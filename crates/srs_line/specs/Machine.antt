@@ -49,3 +49,17 @@ pub record IsExact {S : Type 0} (Steps : S → List ℕ → S → Type 0) (Slips
   pub apart : (s t : S) (line : List ℕ) (slip : Slip) (back : ℕ) → Steps s line t → Slips s line slip back → ⊥
   pub slips_once : (s : S) (line : List ℕ) (d e : Slip) (m n : ℕ) → Slips s line d m → Slips s line e n → (d ≡ e) × (m ≡ n)
   pub over : (s t : S) (line : List ℕ) → IsEnd s → Steps s line t → ⊥
+
+-- what a grammar owes so that each text is good or has a slip: ends are told from other states, and where good lines lead
+-- that is no end, each line is good or slips
+pub record IsTotal {S : Type 0} (Steps : S → List ℕ → S → Type 0) (Slips : S → List ℕ → Slip → ℕ → Type 0)
+    (IsEnd : S → Type 0) (start : S) : Type 0 where
+  pub ends : (s : S) → IsEnd s ⊎ (¬ (IsEnd s))
+  pub goes_on : (lines : List (List ℕ)) (s : S) → Runs Steps start lines s → ¬ (IsEnd s) → (line : List ℕ) → HasNoLf line
+      → ((t : S) × Steps s line t) ⊎ ((slip : Slip) × (back : ℕ) × Slips s line slip back)
+
+-- the text is good, or has a first slip
+abbrev pub IsReadOrSlips : {S : Type 0} → (S → List ℕ → S → Type 0) → (S → List ℕ → Slip → ℕ → Type 0) → (S → Type 0)
+    → S → List ℕ → Type 0
+IsReadOrSlips {S} Steps Slips IsEnd start text =
+    ((last : S) × IsRead Steps IsEnd start text last) ⊎ ((line : ℕ) × (slip : Slip) × SlipsAt Steps Slips IsEnd start text line slip)

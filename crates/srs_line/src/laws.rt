@@ -1,6 +1,6 @@
 // What holds of every grammar that is read line by line, once it is shown to be exact.
 ghost use Rattle.std.specs.Prelude.{◌≡◌, List, ℕ};
-ghost use Rattle.srs_line.specs.Machine.{IsRead, SlipsAt, IsExact};
+ghost use Rattle.srs_line.specs.Machine.{IsRead, SlipsAt, IsExact, IsTotal, IsReadOrSlips};
 ghost use Rattle.srs_line.specs.declared.slip.Slip.{Slip};
 
 use crate::LineMachine;
@@ -18,4 +18,9 @@ pub fn one_slip<M: LineMachine>()
 /// A good text leads to one state.
 pub fn read_once<M: LineMachine>()
     ensures { IsExact M.steps M.slips M.is_end → (start last other : M) (text : List ℕ) → IsRead M.steps M.is_end start text last → IsRead M.steps M.is_end start text other → last ≡ other }
+{}
+
+/// A text is good or has a first slip, where each line goes on or slips.
+pub fn read_or_slips<M: LineMachine>()
+    ensures { (start : M) → IsTotal M.steps M.slips M.is_end start → (text : List ℕ) → IsReadOrSlips M.steps M.slips M.is_end start text }
 {}

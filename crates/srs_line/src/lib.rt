@@ -8,7 +8,7 @@ mod shape;
 mod slip;
 mod tokens;
 
-pub use laws::{never_both, one_slip, read_once};
+pub use laws::{never_both, one_slip, read_once, read_or_slips};
 pub use machine::{LineMachine, read_lines};
 pub use many::numbers_of;
 pub use shape::{count_of, fields, has_word, one, one_line, six, three};

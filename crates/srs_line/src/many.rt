@@ -28,10 +28,8 @@ pub fn numbers_of(line: &[u8], word: &[u8], into: &mut Nums) -> Result<i64, Line
     let Some(n) = number(token) else {
         return Err(LineErr::Slip(Slip::Number, 0));
     };
-    match push_numbers(&mut left, into) {
-        Ok(()) => Ok(n),
-        Err(e) => Err(e),
-    }
+    push_numbers(&mut left, into)?;
+    Ok(n)
 }
 
 // Puts the numbers of the tokens that are left into the empty list.
@@ -44,10 +42,9 @@ fn push_numbers(left: &mut Tokens, into: &mut Nums) -> Result<(), LineErr>
         let Some(n) = number(token) else {
             return Err(LineErr::Slip(Slip::Number, 0));
         };
-        match into.push(n) {
-            Ok(()) => {}
-            Err(_) => return Err(LineErr::NoMemory),
-        }
+        let Ok(()) = into.push(n) else {
+            return Err(LineErr::NoMemory);
+        };
     }
     Ok(())
 }

@@ -80,10 +80,8 @@ pub fn one(line: &[u8], word: &[u8]) -> Result<i64, Slip>
     ensures err { IfErr result (IsFieldSlip word.now 1 line.now) }
 {
     let mut into = [0i64; 1];
-    match fields(line, word, &mut into) {
-        Ok(()) => Ok(into[0]),
-        Err(slip) => Err(slip),
-    }
+    fields(line, word, &mut into)?;
+    Ok(into[0])
 }
 
 /// Reads the line as the word and three numbers. It takes no memory.
@@ -92,10 +90,8 @@ pub fn three(line: &[u8], word: &[u8]) -> Result<(i64, i64, i64), Slip>
     ensures err { IfErr result (IsFieldSlip word.now 3 line.now) }
 {
     let mut into = [0i64; 3];
-    match fields(line, word, &mut into) {
-        Ok(()) => Ok((into[0], into[1], into[2])),
-        Err(slip) => Err(slip),
-    }
+    fields(line, word, &mut into)?;
+    Ok((into[0], into[1], into[2]))
 }
 
 /// Reads the line as the word and six numbers. It takes no memory.
@@ -104,10 +100,8 @@ pub fn six(line: &[u8], word: &[u8]) -> Result<(i64, i64, i64, i64, i64, i64), S
     ensures err { IfErr result (IsFieldSlip word.now 6 line.now) }
 {
     let mut into = [0i64; 6];
-    match fields(line, word, &mut into) {
-        Ok(()) => Ok((into[0], into[1], into[2], into[3], into[4], into[5])),
-        Err(slip) => Err(slip),
-    }
+    fields(line, word, &mut into)?;
+    Ok((into[0], into[1], into[2], into[3], into[4], into[5]))
 }
 
 /// Reads the line as the word and a number from `low` to `high`; any other number is the slip `outside`. It takes no
@@ -116,10 +110,7 @@ pub fn count_of(line: &[u8], word: &[u8], low: u32, high: u32, outside: Slip) ->
     ensures ok { IfOk result (λ n. SaysCount word.now low high n line.now) }
     ensures err { IfErr result (IsCountSlip word.now low high outside line.now) }
 {
-    let n = match one(line, word) {
-        Ok(n) => n,
-        Err(slip) => return Err(slip),
-    };
+    let n = one(line, word)?;
     if n < low as i64 || n > high as i64 {
         return Err(outside);
     }

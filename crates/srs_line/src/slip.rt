@@ -2,6 +2,9 @@
 ghost use Rattle.std.specs.Prelude.{◌≡◌};
 ghost use Rattle.srs_line.specs.Refusal.{slip_word};
 
+use srs_num::NoMemory;
+use std::alloc::{AllocError, AllocFailed};
+
 /// What is wrong with a line.
 #[derive(Clone, Copy, Debug, PartialEq, Eq)]
 pub enum Slip {
@@ -60,4 +63,59 @@ pub enum LineErr {
     Slip(Slip, u64),
     /// Want of memory.
     NoMemory,
+}
+
+impl From<Slip> for LineErr {
+    ghost use Rattle.std.specs.Prelude.{◌≡◌};
+    ghost use Rattle.srs_line.specs.declared.slip.LineErr.TheVariants as lines;
+
+    ghost from_gives = { λ slip e. e ≡ lines.Slip slip 0 };
+
+    fn from(slip: Slip) -> LineErr {
+        LineErr::Slip(slip, 0)
+    }
+}
+
+impl From<NoMemory> for LineErr {
+    ghost use Rattle.std.specs.Prelude.{◌≡◌};
+    ghost use Rattle.srs_line.specs.declared.slip.LineErr.TheVariants as lines;
+
+    ghost from_gives = { λ _ e. e ≡ lines.NoMemory };
+
+    fn from(_: NoMemory) -> LineErr {
+        LineErr::NoMemory
+    }
+}
+
+impl From<AllocError> for LineErr {
+    ghost use Rattle.std.specs.Prelude.{◌≡◌};
+    ghost use Rattle.srs_line.specs.declared.slip.LineErr.TheVariants as lines;
+
+    ghost from_gives = { λ _ e. e ≡ lines.NoMemory };
+
+    fn from(_: AllocError) -> LineErr {
+        LineErr::NoMemory
+    }
+}
+
+impl<T: Drop> From<AllocFailed<T>> for LineErr {
+    ghost use Rattle.std.specs.Prelude.{◌≡◌};
+    ghost use Rattle.srs_line.specs.declared.slip.LineErr.TheVariants as lines;
+
+    ghost from_gives = { λ _ e. e ≡ lines.NoMemory };
+
+    fn from(_: AllocFailed<T>) -> LineErr {
+        LineErr::NoMemory
+    }
+}
+
+impl From<NoMemory> for FileErr {
+    ghost use Rattle.std.specs.Prelude.{◌≡◌};
+    ghost use Rattle.srs_line.specs.declared.slip.FileErr.TheVariants as files;
+
+    ghost from_gives = { λ _ e. e ≡ files.NoMemory };
+
+    fn from(_: NoMemory) -> FileErr {
+        FileErr::NoMemory
+    }
 }

@@ -1,13 +1,13 @@
 // The text of a certificate.
 ghost use Rattle.std.specs.Prelude.{◌≡◌, ◌++◌, [], ◌∷◌, codes, OnOk, OnErr};
 ghost use Rattle.std.specs.List.{flat_map};
-ghost use Rattle.srs_file.specs.Texts.{count_text, vertex_text, ring_text, limits_text, head_text, outcome_text};
-ghost use Rattle.srs_file.specs.Certificates.{outcomes_of, cert_text};
+ghost use Rattle.srs_cert.specs.Texts.{count_text, vertex_text, ring_text, limits_text, head_text, outcome_text};
+ghost use Rattle.srs_cert.specs.Certificates.{outcomes_of, cert_text};
 ghost use Rattle.srs_print.specs.Fronts.{StopsIn};
 
 use crate::line::{put_count, put_line};
 use crate::node::put_outcome;
-use srs_file::{Cert, word_of};
+use srs_cert::{Cert, word_of};
 use srs_path::Limits;
 use srs_plane::Vertex;
 use srs_text::{Bytes, NoMemory};

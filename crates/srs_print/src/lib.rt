@@ -3,9 +3,11 @@
 
 mod certificate;
 mod line;
+mod live;
 mod node;
 mod said;
 
 pub use certificate::put_cert;
 pub use line::put_words;
+pub use live::put_live;
 pub use said::{put_answer, put_said};

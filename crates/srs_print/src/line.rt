@@ -3,7 +3,7 @@ ghost use Rattle.std.specs.Prelude.{◌≡◌, ◌++◌, [], ◌∷◌, OnOk, On
 ghost use Rattle.std.specs.List.{flat_map};
 ghost use Rattle.std.specs.Fmt.{signed_decimal};
 ghost use Rattle.srs_line.specs.Fields.{line_of};
-ghost use Rattle.srs_file.specs.Texts.{ended, count_text};
+ghost use Rattle.srs_cert.specs.Texts.{ended, count_text};
 ghost use Rattle.srs_print.specs.Fronts.{StopsIn};
 
 use srs_text::{Bytes, NoMemory, put_number};

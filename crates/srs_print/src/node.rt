@@ -4,7 +4,7 @@ ghost use Rattle.std.specs.List.{flat_map};
 ghost use Rattle.std.specs.Fmt.{signed_decimal};
 ghost use Rattle.srs_path.specs.declared.outcomes.Outcome.TheVariants.{Inside, Outside, Cut, Left};
 ghost use Rattle.srs_line.specs.Fields.{line_of};
-ghost use Rattle.srs_file.specs.Texts.{cause_text, rank_text, outcome_text};
+ghost use Rattle.srs_cert.specs.Texts.{cause_text, rank_text, outcome_text};
 ghost use Rattle.srs_print.specs.Fronts.{StopsIn};
 
 use crate::line::{put_count, put_field, put_line, put_signed};

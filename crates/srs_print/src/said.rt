@@ -1,7 +1,7 @@
 // The lines of what is said.
 ghost use Rattle.std.specs.Prelude.{◌≡◌, ◌++◌, ◌∷◌, OnOk, OnErr};
 ghost use Rattle.srs_tree.specs.Answers.{reply_of};
-ghost use Rattle.srs_file.specs.Sayings.{open_text, reply_text, place_text, answer_text, word_if, met_text, orbit_text, said_text};
+ghost use Rattle.srs_cert.specs.Sayings.{open_text, reply_text, place_text, answer_text, word_if, met_text, orbit_text, said_text};
 ghost use Rattle.srs_print.specs.Fronts.{StopsIn};
 
 use crate::line::{put_count, put_line, put_words};

@@ -1,6 +1,6 @@
 // Texts that are certificates: what they hold, and that they are written back.
 use crate::texts::{CORNER, CYCLE, SPLIT, changed};
-use srs_file::{Cert, read_cert, read_polygon};
+use srs_file::{Cert, read_ask, read_cert, read_polygon};
 use srs_print::put_cert;
 use srs_text::Bytes;
 use std::alloc::Global;
@@ -129,5 +129,28 @@ fn polygon_and_cell(rt: HostRuntime) -> Result<(), Fail> {
     let alloc = rt.alloc();
     let text = "polygon 3\nge -2 -1 4\ngt -1 -2 4\nge -1 -1 4\nend\n";
     assert_eq!(rt; polygon_sizes(alloc, text)?, (3, 3));
+    Ok(())
+}
+
+// How many questions stand behind the certificate, and how many nodes it has.
+fn question_sizes(alloc: Global, text: &str) -> Result<(u64, u64), Fail> {
+    if text.len() > 65536 {
+        Err("it is short")?;
+    }
+    match read_ask(alloc, text.as_bytes()) {
+        Ok((cert, queries)) => Ok((queries.len(), cert.events().len())),
+        Err(_) => Err("it is a certificate with questions")?,
+    }
+}
+
+const QUESTIONS: &str = "end\npoint 1 -1 16\nregion 3\nge 0 0 1\nge 1 0 8\nge 0 1 8\norbit 1 -1 4 1 1 100\nend\n";
+
+#[test]
+fn certificate_and_questions(rt: HostRuntime) -> Result<(), Fail> {
+    let alloc = rt.alloc();
+    let some = changed(alloc, &SPLIT, &[(28, QUESTIONS)])?;
+    assert_eq!(rt; question_sizes(alloc, &some)?, (3, 7));
+    let none = changed(alloc, &SPLIT, &[(28, "end\nend\n")])?;
+    assert_eq!(rt; question_sizes(alloc, &none)?, (0, 7));
     Ok(())
 }

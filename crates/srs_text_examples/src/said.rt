@@ -2,8 +2,8 @@
 use srs_map::OrbitEnd;
 use srs_num::Pt;
 use srs_path::{Cause, Cycle, Why};
-use srs_print::put_said;
-use srs_text::{Bytes, Nums};
+use srs_print::{put_answer, put_said, put_words};
+use srs_text::{Bytes, NoMemory, Nums};
 use srs_tree::{Met, Reply, Said};
 use std::alloc::Global;
 use std::test::Fail;
@@ -162,10 +162,22 @@ fn said_of(alloc: Global, plain: Plain) -> Result<Said, Fail> {
     }
 }
 
-// Whether this is the line of what is said.
+// Whether this is the line of what is said, and the answer at a point, lent, has it too.
 fn is_line(alloc: Global, said: &Said, line: &str) -> Result<bool, Fail> {
     let mut out = Bytes::new(alloc);
     if put_said(&mut out, said).is_err() {
+        Err("there is memory")?;
+    }
+    let same = match said {
+        Said::Point(r, reply) => is_answer_line(alloc, r, reply, line)?,
+        _ => true,
+    };
+    Ok(same && out.as_slice() == line.as_bytes())
+}
+
+fn is_answer_line(alloc: Global, r: &Pt, reply: &Reply, line: &str) -> Result<bool, Fail> {
+    let mut out = Bytes::new(alloc);
+    if put_answer(&mut out, r, &reply.lent()).is_err() {
         Err("there is memory")?;
     }
     Ok(out.as_slice() == line.as_bytes())
@@ -202,5 +214,21 @@ fn polygons_said(rt: HostRuntime) -> Result<(), Fail> {
 #[test]
 fn orbits_said(rt: HostRuntime) -> Result<(), Fail> {
     assert_eq!(rt; first_other(rt.alloc(), &ORBITS)?, None);
+    Ok(())
+}
+
+// A word and numbers behind what is there.
+fn words(alloc: Global) -> Result<Bytes, NoMemory> {
+    let mut out = Bytes::new(alloc);
+    out.extend(b"line")?;
+    put_words(&mut out, b" fall", &[-1, 0, 137438953472])?;
+    put_words(&mut out, b" end", &[])?;
+    Ok(out)
+}
+
+#[test]
+fn words_said(rt: HostRuntime) -> Result<(), Fail> {
+    let text = words(rt.alloc())?;
+    assert_eq!(rt; text.as_slice(), b"line fall -1 0 137438953472 end".as_slice());
     Ok(())
 }

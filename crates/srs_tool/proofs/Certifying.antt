@@ -11,7 +11,7 @@ use Rattle.srs_tree.proofs.Listed.{listed}
 use Rattle.srs_tree.proofs.OnePlanLemmas.{sound_at}
 use Rattle.srs_tree.proofs.PartitionAll.{IsPartition-legal}
 use Rattle.srs_tree.proofs.PlannedSteps.{outcome_of_event}
-use Rattle.srs_file.specs.Certificates.{cert_text}
+use Rattle.srs_cert.specs.Certificates.{cert_text}
 use Rattle.srs_tool.specs.Output.{IsCertificateOf}
 use Rattle.srs_rounds.specs.Refined.{IsRefined}
 

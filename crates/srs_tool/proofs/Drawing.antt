@@ -11,7 +11,7 @@ use Rattle.srs_tree.specs.Tree.{outcome_at}
 use Rattle.srs_tree.specs.Snapshots.{Snapshot, tree_of}
 use Rattle.srs_raster.specs.Maps.{map_char, IsMapText}
 use Rattle.srs_raster.proofs.Moved.{map_moved}
-use Rattle.srs_file.specs.Certificates.{CertView}
+use Rattle.srs_cert.specs.Certificates.{CertView}
 use Rattle.srs_check.specs.Builds.{IsBuilt}
 use Rattle.srs_check.proofs.BuiltAnswers.{built_reply, built_answers}
 

@@ -1,5 +1,6 @@
-pub mod WordLemmas
-pub mod Telling
+pub mod Asking
+pub mod Spelling
+pub mod Owing
 pub mod Completing
 pub mod Certifying
 pub mod Drawing

@@ -18,9 +18,9 @@ use Rattle.srs_tree.specs.declared.queries.Said.{Said}
 use Rattle.srs_tree.specs.Tree.{outcome_at, HoldsAt}
 use Rattle.srs_tree.specs.Snapshots.{Snapshot, tree_of}
 use Rattle.srs_tree.specs.Answers.{Answers, IsMet, reply_by}
-use Rattle.srs_file.specs.Certificates.{CertView}
+use Rattle.srs_cert.specs.Certificates.{CertView}
 use Rattle.srs_file.specs.Questions.{IsQuestion, AreQuestions}
-use Rattle.srs_file.specs.Sayings.{said_text}
+use Rattle.srs_cert.specs.Sayings.{said_text}
 use Rattle.srs_check.specs.Builds.{IsBuilt}
 use Rattle.srs_check.proofs.BuiltAnswers.{built_holds, built_met}
 use Rattle.srs_tool.specs.Replies.{Replies, AreReplies, IsReplyText, AddsReply, IsAsked, AreAsked}

@@ -1,89 +1,83 @@
 -- How a run ends, by what the source gave and what the sink took.
-use Rattle.std.specs.Prelude.{◌≡◌, ◌⊎◌, ◌+◌, ℕ, ◌≤◌, List, length}
+use Rattle.std.specs.Prelude.{◌≡◌, ◌⊎◌, ⊤, ◌+◌, ℕ, ◌≤◌, List, length}
 use Rattle.std.specs.declared.option.Option.{Option}
 use Rattle.std.specs.declared.option.Option.TheVariants.{Some}
 use Rattle.std.specs.Io.KnownBytes.{Consumes, Appends, IsAtEnd}
-use Rattle.srs_text.specs.Ends.{Rose, AppendsFront, TookJust}
+use Rattle.srs_text.specs.Ends.{Rose, AppendsFront, TookJust, TookUpTo}
 use Rattle.srs_tool.specs.declared.status.Status.{Status}
 use Rattle.srs_tool.specs.declared.status.Status.TheVariants.{Done, Bad, Usage, NoMemory, ReadFault, WriteFault, Refused, TooLong}
-use Rattle.srs_tool.specs.declared.words.Command.{Command}
-use Rattle.srs_tool.specs.Words.{Asks, longest_input}
-use Rattle.srs_tool.specs.Output.{Owes, IsInputOf}
+use Rattle.srs_tool.specs.declared.commands.Command.{Command}
+use Rattle.srs_tool.specs.declared.commands.Input.{Input}
+use Rattle.srs_tool.specs.Inputs.{input_of, longest, IsInput}
+use Rattle.srs_tool.specs.Output.{Owes, refused_long}
 
--- the source was read to its end, and gave these bytes, no more than the command takes
-pub record ReadsToEnd (command : Command) (left left_after : Option (List ℕ)) (bytes : List ℕ) : Type 0 where
-  pub taken : Consumes left left_after bytes
+-- the source was read to its end, and gave this text, no longer than such an input may be
+pub record ReadsToEnd (input : Input) (left left_after : Option (List ℕ)) (text : List ℕ) : Type 0 where
+  pub taken : Consumes left left_after text
   pub end : IsAtEnd left_after
-  pub short : length bytes ≤ longest_input command
+  pub short : length text ≤ longest input
 
--- what is owed for the input, with the status, was written
-pub record Answers (command : Command) (input : List ℕ) (status : Status) (got got_after : Option (List ℕ)) : Type 0 where
+-- one byte more was taken than such an input may have
+abbrev pub IsOverlong : Input → Option (List ℕ) → Option (List ℕ) → Type 0
+IsOverlong input left left_after = TookJust left left_after (longest input + 1)
+
+-- no more was taken than such an input may have
+abbrev pub IsCut : Input → Option (List ℕ) → Option (List ℕ) → Type 0
+IsCut input left left_after = TookUpTo left left_after (longest input)
+
+-- the source was read to its end, and what the command owes for it at this status was written
+pub record Answers (command : Command) (status : Status) (left left_after got got_after : Option (List ℕ)) : Type 0 where
+  pub text : List ℕ
+  pub read : ReadsToEnd (input_of command) left left_after text
   pub output : List ℕ
-  pub owed : Owes command input status output
+  pub owed : Owes command text status output
   pub written : Appends got got_after output
 
--- a front of what is owed for the input was written
-pub record BreaksOff (command : Command) (input : List ℕ) (got got_after : Option (List ℕ)) : Type 0 where
+-- the source was read to its end, and a front of what the command owes for it was written
+pub record BreaksOff (command : Command) (left left_after got got_after : Option (List ℕ)) : Type 0 where
+  pub text : List ℕ
+  pub read : ReadsToEnd (input_of command) left left_after text
   pub status : Status
   pub output : List ℕ
-  pub owed : Owes command input status output
+  pub owed : Owes command text status output
   pub written : AppendsFront got got_after output
 
--- what the sink took for an input that was read, by the status
-abbrev pub Tells : Command → List ℕ → Status → Option (List ℕ) → Option (List ℕ) → ℕ → ℕ → Type 0
-Tells command input Done got got_after faults faults_after = Answers command input Done got got_after
-Tells command input Bad got got_after faults faults_after = Answers command input Bad got got_after
-Tells command input Refused got got_after faults faults_after = Answers command input Refused got got_after
-Tells command input WriteFault got got_after faults faults_after = Rose faults faults_after × BreaksOff command input got got_after
-Tells command input NoMemory got got_after faults faults_after = got ≡ got_after
-Tells command input Usage got got_after faults faults_after = ⊥
-Tells command input ReadFault got got_after faults faults_after = ⊥
-Tells command input TooLong got got_after faults faults_after = ⊥
+-- How the command ends, by the status: what was taken from the source, what was written, and which end failed
+abbrev pub EndsBy : Command → Status → Option (List ℕ) → Option (List ℕ) → ℕ → ℕ → Option (List ℕ) → Option (List ℕ) → ℕ → ℕ → Type 0
+EndsBy c Done left left_after reads reads_after got got_after writes writes_after = Answers c Done left left_after got got_after
+EndsBy c Bad left left_after reads reads_after got got_after writes writes_after = Answers c Bad left left_after got got_after
+EndsBy c Refused left left_after reads reads_after got got_after writes writes_after = Answers c Refused left left_after got got_after
+EndsBy c TooLong left left_after reads reads_after got got_after writes writes_after =
+    IsOverlong (input_of c) left left_after × Appends got got_after refused_long
+EndsBy c ReadFault left left_after reads reads_after got got_after writes writes_after =
+    Rose reads reads_after × IsCut (input_of c) left left_after
+EndsBy c WriteFault left left_after reads reads_after got got_after writes writes_after =
+    Rose writes writes_after × (BreaksOff c left left_after got got_after ⊎ (IsOverlong (input_of c) left left_after × AppendsFront got got_after refused_long))
+EndsBy c NoMemory left left_after reads reads_after got got_after writes writes_after = ⊤
+EndsBy c Usage left left_after reads reads_after got got_after writes writes_after = ⊥
 
--- the input was read to its end, and what is owed for it was written
-pub record AnswersFor (command : Command) (status : Status) (left left_after got got_after : Option (List ℕ)) : Type 0 where
-  pub input : List ℕ
-  pub read : ReadsToEnd command left left_after input
-  pub answer : Answers command input status got got_after
-
--- the input was read to its end, and a front of what is owed for it was written
-pub record BreaksFor (command : Command) (left left_after got got_after : Option (List ℕ)) : Type 0 where
-  pub input : List ℕ
-  pub read : ReadsToEnd command left left_after input
-  pub front : BreaksOff command input got got_after
-
--- the words ask for a command, the input was read to its end, and what is owed for it was written
-pub record Completes (words : List (List ℕ)) (status : Status) (left left_after got got_after : Option (List ℕ)) : Type 0 where
+-- the words ask, in this sense, for a command, which ends so
+pub record Ends (Asking : List (List ℕ) → Command → Type 0) (words : List (List ℕ)) (status : Status) (left left_after : Option (List ℕ))
+    (reads reads_after : ℕ) (got got_after : Option (List ℕ)) (writes writes_after : ℕ) : Type 0 where
   pub command : Command
-  pub asked : Asks words command
-  pub answer : AnswersFor command status left left_after got got_after
+  pub asked : Asking words command
+  pub end : EndsBy command status left left_after reads reads_after got got_after writes writes_after
 
--- the words ask for a command, the input was read to its end, and a front of what is owed for it was written
-pub record StopsShort (words : List (List ℕ)) (left left_after got got_after : Option (List ℕ)) : Type 0 where
+-- the words ask, in this sense, for a command, and the source holds an input that it takes
+pub record IsGoodRun (Asking : List (List ℕ) → Command → Type 0) (words : List (List ℕ)) (left : Option (List ℕ)) : Type 0 where
   pub command : Command
-  pub asked : Asks words command
-  pub front : BreaksFor command left left_after got got_after
-
--- one byte more was taken than the command takes
-abbrev pub IsOverlong : Command → Option (List ℕ) → Option (List ℕ) → Type 0
-IsOverlong command left left_after = TookJust left left_after (longest_input command + 1)
-
--- the words ask for a command, and one byte more was taken than it takes
-pub record Overruns (words : List (List ℕ)) (left left_after : Option (List ℕ)) : Type 0 where
-  pub command : Command
-  pub asked : Asks words command
-  pub overlong : IsOverlong command left left_after
-
--- the words ask for a command, and the source holds an input that it takes
-pub record IsGoodRun (words : List (List ℕ)) (left : Option (List ℕ)) : Type 0 where
-  pub command : Command
-  pub asked : Asks words command
-  pub input : List ℕ
-  pub held : left ≡ Some input
-  pub short : length input ≤ longest_input command
-  pub good : IsInputOf command input
+  pub asked : Asking words command
+  pub text : List ℕ
+  pub held : left ≡ Some text
+  pub short : length text ≤ longest (input_of command)
+  pub good : IsInput (input_of command) text
 
 -- either all of the text was written, or a write failed and a front of it was
 abbrev pub Says : Status → Status → Option (List ℕ) → Option (List ℕ) → ℕ → ℕ → List ℕ → Type 0
-Says status result got got_after faults faults_after text =
-    ((result ≡ status) × Appends got got_after text) ⊎ ((result ≡ WriteFault) × Rose faults faults_after × AppendsFront got got_after text)
+Says status result got got_after writes writes_after text =
+    ((result ≡ status) × Appends got got_after text)
+    ⊎ ((result ≡ WriteFault) × Rose writes writes_after × AppendsFront got got_after text)
+
+-- nothing was written
+abbrev pub WritesNothing : Status → Type 0
+WritesNothing status = (status ≡ Usage) ⊎ ((status ≡ NoMemory) ⊎ (status ≡ ReadFault))

@@ -1,4 +1,5 @@
 pub mod Words
+pub mod Inputs
 pub mod Verdicts
 pub mod Replies
 pub mod Output

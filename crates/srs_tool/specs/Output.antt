@@ -1,5 +1,5 @@
 -- What the program owes for an input that was read to its end: a status, and what it writes.
-use Rattle.std.specs.Prelude.{◌≡◌, ◌⊎◌, ⊤, ℕ, List, ◌++◌, Contains, pos, codes}
+use Rattle.std.specs.Prelude.{◌≡◌, ◌⊎◌, ℕ, List, ◌++◌, Contains, pos, codes}
 use Rattle.std.specs.Fmt.{signed_decimal}
 use Rattle.srs_plane.specs.declared.polygons.Vertex.{Vertex}
 use Rattle.srs_plane.specs.Polygons.{region_of}
@@ -11,18 +11,17 @@ use Rattle.srs_tree.specs.Tree.{History, outcome_at, region_at, IsPartition}
 use Rattle.srs_tree.specs.Rounds.{IsPlan}
 use Rattle.srs_line.specs.declared.slip.Slip.{Slip}
 use Rattle.srs_line.specs.Refusal.{slip_word}
-use Rattle.srs_file.specs.Certificates.{CertView, IsTextOf}
+use Rattle.srs_cert.specs.Certificates.{CertView, IsTextOf}
 use Rattle.srs_file.specs.Grammar.{SpellsPolygon, SpellsCertificate, SpellsAsk}
-use Rattle.srs_file.specs.PolygonReading.{FirstSlip}
-use Rattle.srs_file.specs.CertReading.{FirstCertSlip}
-use Rattle.srs_file.specs.AskReading.{FirstAskSlip}
 use Rattle.srs_check.specs.declared.faults.Fault.{Fault}
 use Rattle.srs_check.specs.Proving.{IsProved}
 use Rattle.srs_check.specs.Faults.{counts_of, IsFirstFault}
 use Rattle.srs_check.specs.Certified.{IsCertified}
-use Rattle.srs_tool.specs.declared.words.Command.{Command}
-use Rattle.srs_tool.specs.declared.words.Command.TheVariants.{Certify, Check, Map, Ask}
 use Rattle.srs_raster.specs.Maps.{IsMapText}
+use Rattle.srs_tool.specs.declared.commands.Command.{Command}
+use Rattle.srs_tool.specs.declared.commands.Command.TheVariants.{Certify, Check, Map, Ask}
+use Rattle.srs_tool.specs.declared.commands.Input.{Input}
+use Rattle.srs_tool.specs.Inputs.{input_of, IsInput, Slips, HasCertificate, IsChecked}
 use Rattle.srs_tool.specs.Replies.{IsReplyText}
 use Rattle.srs_tool.specs.Verdicts.{valid_line, fault_line}
 use Rattle.srs_tool.specs.declared.status.Status.{Status}
@@ -55,18 +54,6 @@ pub record Certifies (b : Budget) (input output : List ℕ) : Type 0 where
   pub polygon : SpellsPolygon input vertices
   pub certificate : IsCertificateOf vertices b output
 
--- the text is that of no polygon
-abbrev pub SpellsNoPolygon : List ℕ → Type 0
-SpellsNoPolygon text = (vs : List Vertex) → SpellsPolygon text vs → ⊥
-
--- the input is no polygon, and the output says where it slips first
-pub record RefusesPolygon (input output : List ℕ) : Type 0 where
-  pub line : ℕ
-  pub slip : Slip
-  pub first : FirstSlip input line slip
-  pub no_polygon : SpellsNoPolygon input
-  pub written : output ≡ refusal_line line slip
-
 -- The input is a certificate, each node of which proves itself, and the output says so. So its leaves partition its
 -- polygon, each cut divides, and inside each point is finite, outside the printed pair recurs at each point.
 pub record Validates (input output : List ℕ) : Type 0 where
@@ -94,89 +81,41 @@ pub record Responds (input output : List ℕ) : Type 0 where
   pub certified : IsCertified certificate
   pub replies : IsReplyText certificate queries output
 
--- the text is this certificate and some questions
-abbrev pub AsksOf : List ℕ → CertView → Type 0
-AsksOf text c = (queries : List Query) × SpellsAsk text c queries
-
--- the input has a certificate, and the output names its first fault
-pub record FindsFault (Has : CertView → Type 0) (output : List ℕ) : Type 0 where
+-- the text has a certificate, and the output names its first fault
+pub record FindsFault (input : Input) (text output : List ℕ) : Type 0 where
   pub certificate : CertView
-  pub spelled : Has certificate
+  pub spelled : HasCertificate input text certificate
   pub line : ℕ
   pub fault : Fault
   pub first : IsFirstFault certificate line fault
   pub written : output ≡ fault_line line fault
 
--- the text is that of no certificate
-abbrev pub SpellsNoCertificate : List ℕ → Type 0
-SpellsNoCertificate text = (c : CertView) → SpellsCertificate text c → ⊥
-
--- the input is no certificate, and the output says where it slips first
-pub record RefusesCertificate (input output : List ℕ) : Type 0 where
+-- the text is no such input, and the output says where it slips first
+pub record Refuses (input : Input) (text output : List ℕ) : Type 0 where
   pub line : ℕ
   pub slip : Slip
-  pub first : FirstCertSlip input line slip
-  pub no_certificate : SpellsNoCertificate input
-  pub written : output ≡ refusal_line line slip
-
--- the text is no certificate with questions
-abbrev pub SpellsNoQuestions : List ℕ → Type 0
-SpellsNoQuestions text = (c : CertView) (queries : List Query) → SpellsAsk text c queries → ⊥
-
--- the input is no certificate with questions, and the output says where it slips first
-pub record RefusesQuestions (input output : List ℕ) : Type 0 where
-  pub line : ℕ
-  pub slip : Slip
-  pub first : FirstAskSlip input line slip
-  pub no_questions : SpellsNoQuestions input
+  pub first : Slips input text line slip
+  pub no_input : IsInput input text → ⊥
   pub written : output ≡ refusal_line line slip
 
 -- what is written at Done
 abbrev pub OwesDone : Command → List ℕ → List ℕ → Type 0
-OwesDone (Certify limits) input output = Certifies limits input output
-OwesDone Check input output = Validates input output
-OwesDone (Map w h) input output = Draws w h input output
-OwesDone Ask input output = Responds input output
+OwesDone (Certify limits) text output = Certifies limits text output
+OwesDone Check text output = Validates text output
+OwesDone (Map columns rows) text output = Draws columns rows text output
+OwesDone Ask text output = Responds text output
 
--- what is written at Bad: nothing is bad in a polygon
-abbrev pub OwesBad : Command → List ℕ → List ℕ → Type 0
-OwesBad (Certify limits) input output = ⊥
-OwesBad Check input output = FindsFault (SpellsCertificate input) output
-OwesBad (Map w h) input output = FindsFault (SpellsCertificate input) output
-OwesBad Ask input output = FindsFault (AsksOf input) output
-
--- what is written at Refused
-abbrev pub OwesRefused : Command → List ℕ → List ℕ → Type 0
-OwesRefused (Certify limits) input output = RefusesPolygon input output
-OwesRefused Check input output = RefusesCertificate input output
-OwesRefused (Map w h) input output = RefusesCertificate input output
-OwesRefused Ask input output = RefusesQuestions input output
-
--- what is written, by the status, for the bytes that were read
+-- what is written, by the status, for the text that was read
 abbrev pub Owes : Command → List ℕ → Status → List ℕ → Type 0
-Owes command input Done output = OwesDone command input output
-Owes command input Bad output = OwesBad command input output
-Owes command input Refused output = OwesRefused command input output
-Owes command input Usage output = ⊥
-Owes command input NoMemory output = ⊥
-Owes command input ReadFault output = ⊥
-Owes command input WriteFault output = ⊥
-Owes command input TooLong output = ⊥
+Owes command text Done output = OwesDone command text output
+Owes command text Bad output = FindsFault (input_of command) text output
+Owes command text Refused output = Refuses (input_of command) text output
+Owes command text Usage output = ⊥
+Owes command text NoMemory output = ⊥
+Owes command text ReadFault output = ⊥
+Owes command text WriteFault output = ⊥
+Owes command text TooLong output = ⊥
 
--- the input is one that the command takes
-abbrev pub IsInputOf : Command → List ℕ → Type 0
-IsInputOf (Certify limits) input = (vertices : List Vertex) × SpellsPolygon input vertices
-IsInputOf Check input = (certificate : CertView) × SpellsCertificate input certificate
-IsInputOf (Map w h) input = (certificate : CertView) × SpellsCertificate input certificate
-IsInputOf Ask input = (certificate : CertView) × AsksOf input certificate
-
--- the command checks a certificate
-abbrev pub Checks : Command → Type 0
-Checks (Certify limits) = ⊥
-Checks Check = ⊤
-Checks (Map w h) = ⊤
-Checks Ask = ⊤
-
--- how the command ends for such an input, where no end fails
+-- how the command ends for an input that it takes, where no end fails
 abbrev pub EndsWell : Command → Status → Type 0
-EndsWell command status = (status ≡ Done) ⊎ ((status ≡ NoMemory) ⊎ ((status ≡ Bad) × Checks command))
+EndsWell command status = (status ≡ Done) ⊎ ((status ≡ NoMemory) ⊎ ((status ≡ Bad) × IsChecked (input_of command)))

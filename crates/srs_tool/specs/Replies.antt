@@ -12,8 +12,8 @@ use Rattle.srs_tree.specs.declared.queries.Said.{Said}
 use Rattle.srs_tree.specs.declared.queries.Said.TheVariants.{Point as SaysPoint, Polygon as SaysPolygon, Orbit as SaysOrbit}
 use Rattle.srs_tree.specs.Tree.{outcome_at}
 use Rattle.srs_tree.specs.Answers.{Answers, IsMet}
-use Rattle.srs_file.specs.Certificates.{CertView}
-use Rattle.srs_file.specs.Sayings.{said_text}
+use Rattle.srs_cert.specs.Certificates.{CertView}
+use Rattle.srs_cert.specs.Sayings.{said_text}
 
 -- What is said to the question: the answer at a point over the certificate's events, with the cause of its node; for each
 -- kind of answer whether some point of a polygon has it; the end of an orbit

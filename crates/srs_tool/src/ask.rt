@@ -5,16 +5,16 @@ ghost use Rattle.srs_tree.specs.declared.queries.Query.TheVariants.{Point as Ask
 ghost use Rattle.srs_tree.specs.Questions.{IsAskable};
 ghost use Rattle.srs_tree.specs.Tree.{outcome_at};
 ghost use Rattle.srs_tree.specs.Answers.{Answers, reply_of, reply_by};
-ghost use Rattle.srs_file.specs.Grammar.{SpellsAsk};
-ghost use Rattle.srs_file.specs.Sayings.{said_text};
+ghost use Rattle.srs_cert.specs.Sayings.{said_text};
+ghost use Rattle.srs_cert.specs.Certificates.{CertView};
 ghost use Rattle.srs_check.specs.Builds.{IsBuilt};
-ghost use Rattle.srs_tool.specs.declared.words.Command.TheVariants.{Ask};
+ghost use Rattle.srs_tool.specs.declared.commands.Command.TheVariants.{Ask};
 ghost use Rattle.srs_tool.specs.Replies.{IsReplyText, AddsReply, IsAsked, AreAsked};
-ghost use Rattle.srs_tool.specs.Ends.{Tells};
+ghost use Rattle.srs_tool.specs.Output.{Owes};
 
-use crate::say::{blame, refuse, say};
+use crate::lines::{bad, refused};
+use crate::output::Output;
 use crate::status::Status;
-use crate::words::Command;
 use srs_cell::Cell;
 use srs_check::{Built, build};
 use srs_file::{Cert, FileErr, read_ask};
@@ -22,44 +22,29 @@ use srs_map::orbit;
 use srs_num::{NoMemory, Pt, Steps};
 use srs_path::Path;
 use srs_print::{put_answer, put_said};
-use srs_text::{Bytes, Sink};
+use srs_text::Bytes;
 use srs_tree::{Answer, Queries, Query, Said, Version};
 use std::alloc::Global;
 use std::marker::Brand;
 use std::sync::ledger::{Blank, Ledger};
 
-/// Answers the questions that the input asks of its certificate, or refuses the input, which was read to its end.
-pub fn ask<K: Sink>(alloc: Global, input: &[u8], sink: &mut K) -> Status
+/// What is said to the questions that the input asks of its certificate, or its first fault, or the refusal of the input. An
+/// `Err` is want of memory.
+pub fn ask(alloc: Global, input: &[u8]) -> Result<Output, NoMemory>
     requires { length input.now ≤ 2 ^ 27 }
-    ensures told { Tells Ask input.now result (K.got sink.old) (K.got sink.new) (K.faults sink.old) (K.faults sink.new) }
-    ensures memory { result ≡ Status.NoMemory → sink.new ≡ sink.old }
+    ensures { IfOk result (λ o. Owes Ask input.now o.status o.text) }
 {
-    match read_ask(alloc, input) {
-        Ok((cert, queries)) => answer(alloc, input, &cert, &queries, sink),
-        Err(FileErr::At(line, slip)) => refuse(alloc, &Command::Ask, input, line, slip, sink),
-        Err(FileErr::NoMemory) => Status::NoMemory,
-    }
-}
-
-// Answers for the text of a certificate and questions.
-fn answer<K: Sink>(
-    alloc: Global,
-    input: &[u8],
-    cert: &Cert,
-    queries: &Queries,
-    sink: &mut K,
-) -> Status
-    requires { SpellsAsk input.now cert.now queries.now }
-    ensures told { Tells Ask input.now result (K.got sink.old) (K.got sink.new) (K.faults sink.old) (K.faults sink.new) }
-    ensures memory { result ≡ Status.NoMemory → sink.new ≡ sink.old }
-{
-    match build(alloc, cert) {
-        Ok(Built::Valid(version, _)) => match replies(alloc, cert, &version, queries) {
-            Ok(text) => say(Status::Done, sink, text.as_slice()),
-            Err(NoMemory) => Status::NoMemory,
-        },
-        Ok(Built::Bad(line, fault)) => blame(alloc, &Command::Ask, input, line, &fault, sink),
-        Err(NoMemory) => Status::NoMemory,
+    let (cert, queries) = match read_ask(alloc, input) {
+        Ok(read) => read,
+        Err(FileErr::At(line, slip)) => return refused(alloc, line, slip),
+        Err(FileErr::NoMemory) => return Err(NoMemory),
+    };
+    match build(alloc, &cert)? {
+        Built::Valid(version, _) => {
+            let text = replies(alloc, &cert, &version, &queries)?;
+            Ok(Output { status: Status::Done, text })
+        }
+        Built::Bad(line, fault) => bad(alloc, line, &fault),
     }
 }
 
@@ -116,7 +101,7 @@ fn put_reply<L: Ledger>(
 {
     match query {
         Query::Point(r) => put_point(text, cert, version, r, steps),
-        Query::Polygon(q) => put_polygon(alloc, text, cert, version, q),
+        Query::Polygon(q) => put_polygon(alloc, text, version, q),
         Query::Orbit(r, z, n) => put(text, &Said::Orbit(orbit(r, *z, *n))),
         Query::Fresh | Query::Count => unreachable!(),
     }
@@ -165,19 +150,17 @@ fn leaf_answer(cert: &Cert, path: Path) -> Answer<'_>
     }
 }
 
-// Appends the line of the answers that the polygon meets.
+// Appends the line of the answers that the polygon meets, in whichever certificate the version was built of.
 fn put_polygon(
     alloc: Global,
     text: &mut Bytes,
-    cert: &Cert,
     version: &Version,
     q: &Cell,
 ) -> Result<(), NoMemory>
-    requires built { IsBuilt cert.now version.now }
     requires few { length q.now ≤ 16 }
-    ensures { OnOk result (AddsReply cert.now (AsksPolygon q.now) text.old text.new) }
+    ensures { (c : CertView) → IsBuilt c version.now →
+        OnOk result (AddsReply c (AsksPolygon q.now) text.old text.new) }
 {
-    let _cert = cert;
     let met = version.meet(alloc, q)?;
     put(text, &Said::Polygon(met))
 }

@@ -1,14 +1,12 @@
 // The command `certify`.
 ghost use Rattle.std.specs.Prelude.{◌≡◌, ◌≤◌, ◌^◌, IfOk, length};
 ghost use Rattle.srs_plane.specs.Polygons.{IsPolygon, region_of};
-ghost use Rattle.srs_file.specs.Grammar.{SpellsPolygon};
-ghost use Rattle.srs_tool.specs.declared.words.Command.TheVariants.{Certify};
-ghost use Rattle.srs_tool.specs.Output.{IsCertificateOf};
-ghost use Rattle.srs_tool.specs.Ends.{Tells};
+ghost use Rattle.srs_tool.specs.declared.commands.Command.TheVariants.{Certify};
+ghost use Rattle.srs_tool.specs.Output.{IsCertificateOf, Owes};
 
-use crate::say::{refuse, say};
+use crate::lines::refused;
+use crate::output::Output;
 use crate::status::Status;
-use crate::words::Command;
 use srs_cell::Cell;
 use srs_file::{Cert, FileErr, read_polygon};
 use srs_num::NoMemory;
@@ -16,42 +14,21 @@ use srs_path::Limits;
 use srs_plane::Vertices;
 use srs_print::put_cert;
 use srs_rounds::rounds;
-use srs_text::{Bytes, Sink};
+use srs_text::Bytes;
 use std::alloc::Global;
 
-/// Certifies the polygon that the input spells, or refuses the input, which was read to its end.
-pub fn certify<K: Sink>(alloc: Global, limits: &Limits, input: &[u8], sink: &mut K) -> Status
+/// The certificate of the polygon that the input spells, or the refusal of the input. An `Err` is want of memory.
+pub fn certify(alloc: Global, limits: &Limits, input: &[u8]) -> Result<Output, NoMemory>
     requires { length input.now ≤ 2 ^ 20 }
-    ensures told { Tells (Certify limits.now) input.now result (K.got sink.old) (K.got sink.new) (K.faults sink.old) (K.faults sink.new) }
-    ensures memory { result ≡ Status.NoMemory → sink.new ≡ sink.old }
+    ensures { IfOk result (λ o. Owes (Certify limits.now) input.now o.status o.text) }
 {
     match read_polygon(alloc, input) {
-        Ok((vertices, cell)) => answer(alloc, limits, input, vertices, cell, sink),
-        Err(FileErr::At(line, slip)) => {
-            refuse(alloc, &Command::Certify(*limits), input, line, slip, sink)
+        Ok((vertices, cell)) => {
+            let text = certificate(alloc, limits, &vertices, cell)?;
+            Ok(Output { status: Status::Done, text })
         }
-        Err(FileErr::NoMemory) => Status::NoMemory,
-    }
-}
-
-// Answers for the text of a polygon.
-fn answer<K: Sink>(
-    alloc: Global,
-    limits: &Limits,
-    input: &[u8],
-    vertices: Vertices,
-    cell: Cell,
-    sink: &mut K,
-) -> Status
-    requires polygon { SpellsPolygon input.now vertices }
-    requires region { cell ≡ region_of vertices }
-    ensures told { Tells (Certify limits.now) input.now result (K.got sink.old) (K.got sink.new) (K.faults sink.old) (K.faults sink.new) }
-    ensures memory { result ≡ Status.NoMemory → sink.new ≡ sink.old }
-{
-    let _input = input;
-    match certificate(alloc, limits, &vertices, cell) {
-        Ok(text) => say(Status::Done, sink, text.as_slice()),
-        Err(NoMemory) => Status::NoMemory,
+        Err(FileErr::At(line, slip)) => refused(alloc, line, slip),
+        Err(FileErr::NoMemory) => Err(NoMemory),
     }
 }
 

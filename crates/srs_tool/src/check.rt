@@ -1,43 +1,27 @@
 // The command `check`.
-ghost use Rattle.std.specs.Prelude.{◌≡◌, ◌≤◌, ◌^◌, length};
-ghost use Rattle.srs_file.specs.Grammar.{SpellsCertificate};
-ghost use Rattle.srs_tool.specs.declared.words.Command.TheVariants.{Check};
-ghost use Rattle.srs_tool.specs.Ends.{Tells};
+ghost use Rattle.std.specs.Prelude.{◌≤◌, ◌^◌, IfOk, length};
+ghost use Rattle.srs_tool.specs.declared.commands.Command.TheVariants.{Check};
+ghost use Rattle.srs_tool.specs.Output.{Owes};
 
-use crate::say::{blame, refuse, say};
-use crate::status::Status;
-use crate::verdicts::valid;
-use crate::words::Command;
+use crate::lines::{bad, refused, valid};
+use crate::output::Output;
 use srs_check::Checked;
-use srs_file::{Cert, FileErr, read_cert};
-use srs_text::Sink;
+use srs_file::{FileErr, read_cert};
+use srs_num::NoMemory;
 use std::alloc::Global;
 
-/// Checks the certificate that the input spells, or refuses the input, which was read to its end.
-pub fn check<K: Sink>(alloc: Global, input: &[u8], sink: &mut K) -> Status
+/// What the check of the certificate that the input spells says, or the refusal of the input. An `Err` is want of memory.
+pub fn check(alloc: Global, input: &[u8]) -> Result<Output, NoMemory>
     requires { length input.now ≤ 2 ^ 27 }
-    ensures told { Tells Check input.now result (K.got sink.old) (K.got sink.new) (K.faults sink.old) (K.faults sink.new) }
-    ensures memory { result ≡ Status.NoMemory → sink.new ≡ sink.old }
+    ensures { IfOk result (λ o. Owes Check input.now o.status o.text) }
 {
-    match read_cert(alloc, input) {
-        Ok(cert) => answer(alloc, input, &cert, sink),
-        Err(FileErr::At(line, slip)) => refuse(alloc, &Command::Check, input, line, slip, sink),
-        Err(FileErr::NoMemory) => Status::NoMemory,
-    }
-}
-
-// Answers for the text of a certificate.
-fn answer<K: Sink>(alloc: Global, input: &[u8], cert: &Cert, sink: &mut K) -> Status
-    requires { SpellsCertificate input.now cert.now }
-    ensures told { Tells Check input.now result (K.got sink.old) (K.got sink.new) (K.faults sink.old) (K.faults sink.new) }
-    ensures memory { result ≡ Status.NoMemory → sink.new ≡ sink.old }
-{
-    match srs_check::check(alloc, cert) {
-        Ok(Checked::Valid(counts)) => match valid(alloc, &counts) {
-            Ok(text) => say(Status::Done, sink, text.as_slice()),
-            Err(_) => Status::NoMemory,
-        },
-        Ok(Checked::Bad(line, fault)) => blame(alloc, &Command::Check, input, line, &fault, sink),
-        Err(_) => Status::NoMemory,
+    let cert = match read_cert(alloc, input) {
+        Ok(cert) => cert,
+        Err(FileErr::At(line, slip)) => return refused(alloc, line, slip),
+        Err(FileErr::NoMemory) => return Err(NoMemory),
+    };
+    match srs_check::check(alloc, &cert)? {
+        Checked::Valid(counts) => valid(alloc, &counts),
+        Checked::Bad(line, fault) => bad(alloc, line, &fault),
     }
 }

@@ -1,19 +1,21 @@
 // The top call of the commands that start no thread.
-ghost use Rattle.std.specs.Prelude.{◌≡◌, ◌≢◌, ◌⊎◌, List, ℕ, ◌≤◌, length, map, string_bytes};
-ghost use Rattle.std.specs.Io.KnownBytes.{Appends};
-ghost use Rattle.srs_text.specs.Ends.{Rose, AppendsFront};
-ghost use Rattle.srs_tool.specs.declared.words.Command.{Command};
-ghost use Rattle.srs_tool.specs.Words.{Asks, IsInRange, longest_input};
-ghost use Rattle.srs_tool.specs.Output.{refused_long, EndsWell};
-ghost use Rattle.srs_tool.specs.Ends.{Completes, StopsShort, Overruns, IsGoodRun, AnswersFor, BreaksFor, IsOverlong, Tells};
+ghost use Rattle.std.specs.Prelude.{◌≡◌, ◌≢◌, ◌⊎◌, ◌≤◌, length, map, string_bytes, IfOk, IfErr};
+ghost use Rattle.srs_text.specs.Ends.{Rose};
+ghost use Rattle.srs_tool.specs.declared.commands.Command.{Command};
+ghost use Rattle.srs_tool.specs.Words.{Asks, IsInRange};
+ghost use Rattle.srs_tool.specs.Inputs.{input_of, longest};
+ghost use Rattle.srs_tool.specs.Output.{Owes, EndsWell};
+ghost use Rattle.srs_tool.specs.Ends.{Ends, EndsBy, IsGoodRun, WritesNothing};
 
 use crate::ask::ask;
 use crate::certify::certify;
 use crate::check::check;
+use crate::commands::Command;
 use crate::map::draw;
-use crate::say::say;
+use crate::output::{Output, say};
 use crate::status::Status;
-use crate::words::{Command, command_of};
+use crate::words::command_of;
+use srs_num::NoMemory;
 use srs_text::{ReadErr, Sink, Source, read_all};
 use std::alloc::Global;
 
@@ -37,27 +39,16 @@ pub fn plain<S: Source, K: Sink>(
     source: &mut S,
     sink: &mut K,
 ) -> Status
-    ensures usage { result ≡ Status.Usage → (command : Command) → Asks (map string_bytes words.now) command → ⊥ }
-    ensures used { result ≢ Status.Usage → (command : Command) × Asks (map string_bytes words.now) command }
+    ensures usage { result ≡ Status.Usage → (command : Command) →
+        Asks (map string_bytes words.now) command → ⊥ }
     ensures idle { result ≡ Status.Usage → (source.new ≡ source.old) × (sink.new ≡ sink.old) }
-
-    ensures done { result ≡ Status.Done →
-        Completes (map string_bytes words.now) Status.Done (S.left source.old) (S.left source.new) (K.got sink.old) (K.got sink.new) }
-    ensures bad { result ≡ Status.Bad →
-        Completes (map string_bytes words.now) Status.Bad (S.left source.old) (S.left source.new) (K.got sink.old) (K.got sink.new) }
-    ensures refused { result ≡ Status.Refused →
-        Completes (map string_bytes words.now) Status.Refused (S.left source.old) (S.left source.new) (K.got sink.old) (K.got sink.new) }
-
-    ensures read { result ≡ Status.ReadFault → Rose (S.faults source.old) (S.faults source.new) × (sink.new ≡ sink.old) }
-    ensures write { result ≡ Status.WriteFault → Rose (K.faults sink.old) (K.faults sink.new) }
-    ensures front { result ≡ Status.WriteFault →
-        StopsShort (map string_bytes words.now) (S.left source.old) (S.left source.new) (K.got sink.old) (K.got sink.new)
-        ⊎ (Overruns (map string_bytes words.now) (S.left source.old) (S.left source.new) × AppendsFront (K.got sink.old) (K.got sink.new) refused_long) }
-    ensures long { result ≡ Status.TooLong →
-        Overruns (map string_bytes words.now) (S.left source.old) (S.left source.new) × Appends (K.got sink.old) (K.got sink.new) refused_long }
-    ensures memory { result ≡ Status.NoMemory → sink.new ≡ sink.old }
-    ensures complete { (good : IsGoodRun (map string_bytes words.now) (S.left source.old)) → ¬ (Rose (S.faults source.old) (S.faults source.new))
-        → ¬ (Rose (K.faults sink.old) (K.faults sink.new)) → EndsWell good.command result }
+    ensures ends { result ≢ Status.Usage → Ends Asks (map string_bytes words.now) result
+        (S.left source.old) (S.left source.new) (S.faults source.old) (S.faults source.new)
+        (K.got sink.old) (K.got sink.new) (K.faults sink.old) (K.faults sink.new) }
+    ensures unwritten { WritesNothing result → sink.new ≡ sink.old }
+    ensures complete { (good : IsGoodRun Asks (map string_bytes words.now) (S.left source.old)) →
+        ¬ (Rose (S.faults source.old) (S.faults source.new)) →
+        ¬ (Rose (K.faults sink.old) (K.faults sink.new)) → EndsWell good.command result }
 {
     match command_of(words) {
         Some(command) => read_and_answer(alloc, &command, source, sink),
@@ -74,50 +65,32 @@ fn read_and_answer<S: Source, K: Sink>(
 ) -> Status
     requires { IsInRange command.now }
     ensures other { result ≢ Status.Usage }
-    ensures done { result ≡ Status.Done →
-        AnswersFor command.now Status.Done (S.left source.old) (S.left source.new) (K.got sink.old) (K.got sink.new) }
-    ensures bad { result ≡ Status.Bad →
-        AnswersFor command.now Status.Bad (S.left source.old) (S.left source.new) (K.got sink.old) (K.got sink.new) }
-    ensures refused { result ≡ Status.Refused →
-        AnswersFor command.now Status.Refused (S.left source.old) (S.left source.new) (K.got sink.old) (K.got sink.new) }
-    ensures read { result ≡ Status.ReadFault → Rose (S.faults source.old) (S.faults source.new) × (sink.new ≡ sink.old) }
-    ensures write { result ≡ Status.WriteFault → Rose (K.faults sink.old) (K.faults sink.new) }
-    ensures front { result ≡ Status.WriteFault →
-        BreaksFor command.now (S.left source.old) (S.left source.new) (K.got sink.old) (K.got sink.new)
-        ⊎ (IsOverlong command.now (S.left source.old) (S.left source.new) × AppendsFront (K.got sink.old) (K.got sink.new) refused_long) }
-    ensures long { result ≡ Status.TooLong →
-        IsOverlong command.now (S.left source.old) (S.left source.new) × Appends (K.got sink.old) (K.got sink.new) refused_long }
-    ensures memory { result ≡ Status.NoMemory → sink.new ≡ sink.old }
+    ensures ends { EndsBy command.now result
+        (S.left source.old) (S.left source.new) (S.faults source.old) (S.faults source.new)
+        (K.got sink.old) (K.got sink.new) (K.faults sink.old) (K.faults sink.new) }
+    ensures unwritten { WritesNothing result → sink.new ≡ sink.old }
 {
-    match read_all(alloc, source, limit_of(command)) {
-        Ok(input) => answer(alloc, command, input.as_slice(), sink),
+    match read_all(alloc, source, command.input().longest()) {
+        Ok(input) => match answer(alloc, command, input.as_slice()) {
+            Ok(output) => say(output.status, sink, output.text.as_slice()),
+            Err(NoMemory) => Status::NoMemory,
+        },
         Err(ReadErr::Fault) => Status::ReadFault,
         Err(ReadErr::TooLong) => say(Status::TooLong, sink, b"refused long\n"),
         Err(ReadErr::NoMemory) => Status::NoMemory,
     }
 }
 
-// The longest input of the command, in bytes.
-fn limit_of(command: &Command) -> u64
-    ensures { result ≡ longest_input command.now }
-{
-    match command {
-        Command::Certify(_) => 1 << 20,
-        Command::Check | Command::Map(_, _) | Command::Ask => 1 << 27,
-    }
-}
-
-// Answers for an input that was read to its end.
-fn answer<K: Sink>(alloc: Global, command: &Command, input: &[u8], sink: &mut K) -> Status
+// What is owed for an input that was read to its end. An `Err` is want of memory.
+fn answer(alloc: Global, command: &Command, input: &[u8]) -> Result<Output, NoMemory>
     requires range { IsInRange command.now }
-    requires short { length input.now ≤ longest_input command.now }
-    ensures told { Tells command.now input.now result (K.got sink.old) (K.got sink.new) (K.faults sink.old) (K.faults sink.new) }
-    ensures memory { result ≡ Status.NoMemory → sink.new ≡ sink.old }
+    requires short { length input.now ≤ longest (input_of command.now) }
+    ensures { IfOk result (λ o. Owes command.now input.now o.status o.text) }
 {
     match command {
-        Command::Certify(limits) => certify(alloc, limits, input, sink),
-        Command::Check => check(alloc, input, sink),
-        Command::Map(columns, rows) => draw(alloc, *columns, *rows, input, sink),
-        Command::Ask => ask(alloc, input, sink),
+        Command::Certify(limits) => certify(alloc, limits, input),
+        Command::Check => check(alloc, input),
+        Command::Map(columns, rows) => draw(alloc, *columns, *rows, input),
+        Command::Ask => ask(alloc, input),
     }
 }

@@ -1,25 +1,15 @@
 // The words of the command line.
-ghost use Rattle.std.specs.Prelude.{◌≡◌, ◌↔◌, IsTrue, List, ℕ, [], ◌∷◌, map, codes, pos, ◌<◌, ◌^◌, string_bytes, IfSome, IfNone};
+ghost use Rattle.std.specs.Prelude.{◌≡◌, ◌↔◌, IsTrue, List, ℕ, [], ◌∷◌, map, pos, ◌<◌, ◌^◌, string_bytes, IfSome, IfNone};
 ghost use Rattle.srs_text.specs.Spelling.{IsNumber};
-ghost use Rattle.srs_path.specs.Views.{Budget};
-ghost use Rattle.srs_tool.specs.declared.words.Command.{Command};
-ghost use Rattle.srs_tool.specs.Words.{SpellsLimits, AsksCertify, SpellsSide, SpellsSize, AsksMap, Asks};
+ghost use Rattle.srs_path.specs.Views.{Budget, IsBudget};
+ghost use Rattle.srs_line.specs.Fields.{AreNumbers};
+ghost use Rattle.srs_tool.specs.declared.commands.Command.{Command};
+ghost use Rattle.srs_tool.specs.declared.commands.Command.TheVariants.{Certify, Map};
+ghost use Rattle.srs_tool.specs.Words.{limits_numbers, IsSide, Asks};
 
+use crate::commands::Command;
 use srs_path::Limits;
 use srs_text::number;
-
-/// What the words ask for.
-#[derive(Drop)]
-pub enum Command {
-    /// To divide the polygon that is read, and print its certificate.
-    Certify(Limits),
-    /// To check the certificate that is read.
-    Check,
-    /// To check the certificate that is read, and print its map: so many columns and rows, each 1 to 200.
-    Map(u32, u32),
-    /// To check the certificate that is read, and answer the questions behind it.
-    Ask,
-}
 
 /// The command that the words ask for, where they are in one of the forms that the program knows.
 pub fn command_of(words: &[String]) -> Option<Command>
@@ -59,13 +49,13 @@ fn is_word(word: &str, name: &str) -> bool
 
 // The numbers of columns and rows behind `map`.
 fn map_size(words: &[String]) -> Option<(u32, u32)>
-    ensures some { IfSome result (λ size. AsksMap (map string_bytes words.now) size.0 size.1) }
-    ensures none { IfNone result ((w h : ℕ) → AsksMap (map string_bytes words.now) w h → ⊥) }
+    ensures some { IfSome result (λ size. Asks (map string_bytes words.now) (Map size.0 size.1)) }
+    ensures none { IfNone result ((w h : ℕ) → Asks (map string_bytes words.now) (Map w h) → ⊥) }
 {
-    let [command, columns, rows] = words else {
+    let [name, columns, rows] = words else {
         return None;
     };
-    if !is_word(command.as_str(), "map") {
+    if !is_word(name.as_str(), "map") {
         return None;
     }
     size_of(columns.as_bytes(), rows.as_bytes())
@@ -73,23 +63,21 @@ fn map_size(words: &[String]) -> Option<(u32, u32)>
 
 // The numbers of columns and rows that two words spell.
 fn size_of(columns: &[u8], rows: &[u8]) -> Option<(u32, u32)>
-    ensures some { IfSome result (λ size. SpellsSize columns.now rows.now size.0 size.1) }
-    ensures none { IfNone result ((w h : ℕ) → SpellsSize columns.now rows.now w h → ⊥) }
+    ensures some { IfSome result (λ size.
+        AreNumbers (columns.now ∷ rows.now ∷ []) (pos size.0 ∷ pos size.1 ∷ [])
+        × (IsSide size.0 × IsSide size.1)) }
+    ensures none { IfNone result ((w h : ℕ) →
+        AreNumbers (columns.now ∷ rows.now ∷ []) (pos w ∷ pos h ∷ []) → IsSide w × IsSide h → ⊥) }
 {
-    let width = match side_of(columns) {
-        Some(n) => n,
-        None => return None,
-    };
-    match side_of(rows) {
-        Some(height) => Some((width, height)),
-        None => None,
-    }
+    let width = side_of(columns)?;
+    let height = side_of(rows)?;
+    Some((width, height))
 }
 
 // A number from 1 to 200.
 fn side_of(text: &[u8]) -> Option<u32>
-    ensures some { IfSome result (SpellsSide text.now) }
-    ensures none { IfNone result ((n : ℕ) → SpellsSide text.now n → ⊥) }
+    ensures some { IfSome result (λ n. IsNumber text.now (pos n) × IsSide n) }
+    ensures none { IfNone result ((n : ℕ) → IsNumber text.now (pos n) → IsSide n → ⊥) }
 {
     let n = number(text)?;
     if n < 1 || n > 200 {
@@ -100,13 +88,13 @@ fn side_of(text: &[u8]) -> Option<u32>
 
 // The limits behind `certify`.
 fn certify_limits(words: &[String]) -> Option<Limits>
-    ensures some { IfSome result (AsksCertify (map string_bytes words.now)) }
-    ensures none { IfNone result ((b : Budget) → AsksCertify (map string_bytes words.now) b → ⊥) }
+    ensures some { IfSome result (λ b. Asks (map string_bytes words.now) (Certify b)) }
+    ensures none { IfNone result ((b : Budget) → Asks (map string_bytes words.now) (Certify b) → ⊥) }
 {
-    let [command, depth, cells, wits] = words else {
+    let [name, depth, cells, wits] = words else {
         return None;
     };
-    if !is_word(command.as_str(), "certify") {
+    if !is_word(name.as_str(), "certify") {
         return None;
     }
     limits_of(depth.as_bytes(), cells.as_bytes(), wits.as_bytes())
@@ -114,21 +102,15 @@ fn certify_limits(words: &[String]) -> Option<Limits>
 
 // The limits that three words spell.
 fn limits_of(depth: &[u8], cells: &[u8], wits: &[u8]) -> Option<Limits>
-    ensures some { IfSome result (SpellsLimits depth.now cells.now wits.now) }
-    ensures none { IfNone result ((b : Budget) → SpellsLimits depth.now cells.now wits.now b → ⊥) }
+    ensures some { IfSome result (λ b.
+        AreNumbers (depth.now ∷ cells.now ∷ wits.now ∷ []) (limits_numbers b) × IsBudget b) }
+    ensures none { IfNone result ((b : Budget) →
+        AreNumbers (depth.now ∷ cells.now ∷ wits.now ∷ []) (limits_numbers b) → IsBudget b → ⊥) }
 {
-    let most_depth = match count_of(depth) {
-        Some(n) => n,
-        None => return None,
-    };
-    let most_cells = match count_of(cells) {
-        Some(n) => n,
-        None => return None,
-    };
-    match count_of(wits) {
-        Some(most_wits) => Limits::new(most_depth, most_cells, most_wits),
-        None => None,
-    }
+    let most_depth = count_of(depth)?;
+    let most_cells = count_of(cells)?;
+    let most_wits = count_of(wits)?;
+    Limits::new(most_depth, most_cells, most_wits)
 }
 
 // A number from 0 to 2^32 - 1.

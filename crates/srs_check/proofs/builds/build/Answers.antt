@@ -1,4 +1,4 @@
-use Rattle.std.proofs.Common.{◌≡◌, ◌+◌, ◌∷◌, ◌++◌, List, length, slice_get, Some, refl, sym, ap, subst, ◌∙◌, arith}
+use Rattle.std.proofs.Common.{◌≡◌, ◌+◌, ◌∷◌, ◌++◌, List, length, slice_get, Some, refl, sym, ap, subst, ◌∙◌, arith, lit<}
 use Rattle.std.specs.FinMap as finite
 use Rattle.std.specs.declared.option.Option.{Option}
 use Rattle.srs_plane.specs.Regions.{Area}
@@ -13,9 +13,9 @@ use Rattle.srs_check.specs.Faults.{Fails}
 use Rattle.srs_check.proofs.Answering.{same_get}
 use Rattle.srs_check.proofs.Excluded.{first_fault}
 use Rattle.srs_check.proofs.WalkStates.{WalkState, some_cell, walk_fault, walk_proves, walk_certifies}
-use Rattle.srs_check.proofs.Building.{GrownTo, regions_of, grown_first, grown_next, grown_last, cell_is_open, same_region, cut_is_short}
+use Rattle.srs_check.proofs.Building.{GrownTo, regions_of, grown_first, grown_next, grown_last, cell_is_open, few_behind, same_region, cut_is_short}
 use Rattle.srs_check.proofs.builds.build.Goals as goal
-use Rattle.srs_check.proofs.builds.build.Goals.{in-Some-2+in_ok-divide, in_default-2}
+use Rattle.srs_check.proofs.builds.build.Goals.{in-Some-2, in_default-2}
 
 pub start-requires : goal.start-requires
 start-requires c =
@@ -59,6 +59,13 @@ enter-requires-clause-short c =
     let at : slice_get c.args.c.now.events c.loop-i.i ≡ Some c.get-event.result.now = same_get c.events.result.now c.args.c.now.events c.loop-i.i c.get-event.result.now c.events.ensures.events c.get-event.ensures in
     cut_is_short c.args.c.now c.loop-i.i c.get-event.result.now c.node_count-nodes.ensures.certificate at
 
+pub divide-requires : goal.divide-requires
+divide-requires c =
+    let s : GrownTo c.args.c.now c.loop-i.i (c.in-Some.next ∷ c.take.new.self) c.loop-i.tree = subst (λ (xs : List WaitingCell). GrownTo c.args.c.now c.loop-i.i xs c.loop-i.tree) c.in-Some.ensures c.loop-i.invariant in
+    let at : slice_get c.args.c.now.events c.loop-i.i ≡ Some c.get-event.result.now = same_get c.events.result.now c.args.c.now.events c.loop-i.i c.get-event.result.now c.events.ensures.events c.get-event.ensures in
+    let parts = ap (λ (o : Option (WaitingCell × WaitingCell)). cells_from o) (sym c.in-Some-2.is) ∙ c.in_ok-ge.ensures.parts in
+    (lit< tt, few_behind c.args.c.now c.node_count-nodes.ensures.certificate c.loop-i.i c.in-Some.next c.take.new.self c.loop-i.tree s c.get-event.result.now at c.in-Some-2.ge c.in-Some-2.lt c.enter.new.tree parts)
+
 pub loop-i-preserved : goal.loop-i-preserved
 loop-i-preserved c =
     let s : GrownTo c.args.c.now c.loop-i.i (c.in-Some.next ∷ c.take.new.self) c.loop-i.tree = subst (λ (xs : List WaitingCell). GrownTo c.args.c.now c.loop-i.i xs c.loop-i.tree) c.in-Some.ensures c.loop-i.invariant in
@@ -70,9 +77,9 @@ loop-i-preserved c =
     = grown_next c.args.c.now c.node_count-nodes.ensures.certificate c.loop-i.i c.in-Some.next c.take.new.self c.loop-i.tree s c.get-event.result.now at proves sound
     c.enter.new.tree c.in_ok-ge.ensures.entered (cells_from c.in_ok-ge.field-0) c.in_ok-ge.ensures.parts in
     elim c.match-branch-5.branch [
-      | in-Some-2+in_ok-divide w ↦
+      | in-Some-2 w ↦
           subst (λ (xs : List WaitingCell). GrownTo c.args.c.now (c.loop-i.i + 1) xs c.enter.new.tree)
-          (ap (λ (o : Option (WaitingCell × WaitingCell)). cells_from o ++ c.take.new.self) w.in-Some-2.is ∙ sym (w.waiting-is ∙ w.in_ok-divide.ensures)) grown
+          (ap (λ (o : Option (WaitingCell × WaitingCell)). cells_from o ++ c.take.new.self) w.in-Some-2.is ∙ sym (w.waiting-is ∙ w.divide.ensures)) grown
       | in_default-2 w ↦
           subst (λ (xs : List WaitingCell). GrownTo c.args.c.now (c.loop-i.i + 1) xs c.enter.new.tree)
           (ap (λ (o : Option (WaitingCell × WaitingCell)). cells_from o ++ c.take.new.self) w.in_default-2.is ∙ sym w.waiting-is) grown

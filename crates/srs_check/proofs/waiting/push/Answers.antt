@@ -1,10 +1,9 @@
-use Rattle.std.proofs.Common.{refl, ap, Some}
-use Rattle.std.specs.Prelude.{IsSome}
-use Rattle.std.proofs.lemmas.Result.{on_err_weaker}
-use Rattle.srs_check.proofs.Answering.{all_push}
+use Rattle.std.proofs.Common.{◌+◌, ◌≤◌, length, arith}
+use Rattle.srs_check.proofs.Stacked.{pushed}
 use Rattle.srs_check.proofs.waiting.push.Goals as goal
 
-pub returns-clause-kept : goal.returns-clause-kept
-returns-clause-kept g c =
-    all_push IsSome c.push.result c.args.cells.now.items c.push.new.self.items (Some c.args.cell) refl c.push.ensures.ok
-    (on_err_weaker c.push.result (ap (λ v. v.items)) c.push.ensures.err)
+pub returns : goal.returns
+returns g c kept room =
+    let fits : length c.args.cells.now.items + 1 ≤ c.args.cells.now.capacity = omega (arith, kept.room, room) in
+    pushed c.args.cells.now.items c.push.new.self.items c.args.cells.now.capacity c.push.new.self.capacity c.args.cell kept room c.push.result
+    (c.push.ensures.succeeds fits) c.push.ensures.ok (c.push.ensures.had_room fits)

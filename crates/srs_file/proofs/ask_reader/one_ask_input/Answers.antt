@@ -1,8 +1,9 @@
-use Rattle.std.proofs.Common.{◌≡◌, sym, ◌∙◌, ap}
+use Rattle.std.proofs.Common.{◌≡◌, sym, ◌∙◌, ap, inl, inr}
 use Rattle.srs_file.specs.declared.ask_reader.AskReader.{AskReader}
 use Rattle.srs_file.specs.CertReading.{read_view}
 use Rattle.srs_file.specs.AskReading.{ask_start}
 use Rattle.srs_file.proofs.AskLaws.{ask_exact}
+use Rattle.srs_file.proofs.AskDecided.{ask_total}
 use Rattle.srs_file.proofs.AskTexts.{read_is_ask, ask_is_read}
 use Rattle.srs_file.proofs.ask_reader.one_ask_input.Goals as goal
 
@@ -26,3 +27,10 @@ returns-clause-spelled c text b queries (last, read, e, f) = rw (e, f) at (read_
 
 pub returns-clause-read : goal.returns-clause-read
 returns-clause-read c = ask_is_read
+
+pub returns-clause-either : goal.returns-clause-either
+returns-clause-either c text =
+    elim (c.read_or_slips.ensures ask_start ask_total text) [
+      | inl read ↦ inl (read_view read.0.cert, read.0.questions.queries, read_is_ask text read.0 read.1)
+      | inr slip ↦ inr slip
+    ]

@@ -15,8 +15,8 @@ into_cert-requires c =
     let read : IsRead AskSteps AskEnds ask_start c.args.text.now last = rw c.new-reader.ensures at c.in_ok-read_lines.ensures.read in
     (read_is_ask c.args.text.now last read).of_certificate.certificate
 
-pub returns-in-Ok-clause-accepted : goal.returns-in-Ok-clause-accepted
-returns-in-Ok-clause-accepted c =
+pub returns-clause-accepted : goal.returns-clause-accepted
+returns-clause-accepted c =
     let last = c.read_lines.new.machine in
     let read : IsRead AskSteps AskEnds ask_start c.args.text.now last = rw c.new-reader.ensures at c.in_ok-read_lines.ensures.read in
-    rw c.in-Ok.ensures (read_is_ask c.args.text.now last read)
+    rw c.in_ok-into_cert.ensures (read_is_ask c.args.text.now last read)

@@ -1,7 +1,8 @@
-use Rattle.std.proofs.Common.{◌≡◌, sym, ◌∙◌, ap, refl}
-use Rattle.srs_file.specs.Certificates.{cert_text}
+use Rattle.std.proofs.Common.{◌≡◌, sym, ◌∙◌, ap, refl, inl, inr}
+use Rattle.srs_cert.specs.Certificates.{cert_text}
 use Rattle.srs_file.specs.CertReading.{cert_start, read_view}
 use Rattle.srs_file.proofs.CertLaws.{cert_exact}
+use Rattle.srs_file.proofs.CertDecided.{cert_total}
 use Rattle.srs_file.proofs.CertTexts.{read_is_cert}
 use Rattle.srs_file.proofs.CertRuns.{text_is_cert}
 use Rattle.srs_file.proofs.cert_reader.one_certificate.Goals as goal
@@ -29,3 +30,10 @@ returns-clause-read c = text_is_cert
 
 pub returns-clause-back : goal.returns-clause-back
 returns-clause-back c b is = text_is_cert (cert_text b) b (record { certificate = is; spelled = refl })
+
+pub returns-clause-either : goal.returns-clause-either
+returns-clause-either c text =
+    elim (c.read_or_slips.ensures cert_start cert_total text) [
+      | inl read ↦ inl (read_view read.0, read_is_cert text read.0 read.1)
+      | inr slip ↦ inr slip
+    ]

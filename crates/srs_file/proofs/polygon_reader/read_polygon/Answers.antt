@@ -18,7 +18,7 @@ unreachable-requires c =
     let read : IsRead Steps IsEnd start c.args.text.now last = rw c.new-reader.ensures at c.in_ok-read_lines.ensures.read in
     let some = (read_is_text c.args.text.now last read).1 in
     let kept = c.into_parts-vertices.ensures.region in
-    let none = c.in-None.is in
+    let none = c.in_default.is in
     cc
 
 pub inhabited-requires : goal.inhabited-requires
@@ -26,17 +26,17 @@ inhabited-requires c =
     let last = c.read_lines.new.machine in
     let read : IsRead Steps IsEnd start c.args.text.now last = rw c.new-reader.ensures at c.in_ok-read_lines.ensures.read in
     let both = read_is_text c.args.text.now last read in
-    let region : Some c.in-Some.region ≡ Some (region_of last.ring.vertices) = sym c.in-Some.is ∙ c.into_parts-vertices.ensures.region ∙ both.1 in
-    let same : c.in-Some.region ≡ region_of last.ring.vertices = cc in
-    rw same (polygon_has_point last.ring.vertices both.0.polygon)
+    let region : Some c.in-Some.region ≡ Some (region_of last.outline.ring.vertices) = sym c.in-Some.is ∙ c.into_parts-vertices.ensures.region ∙ both.1 in
+    let same : c.in-Some.region ≡ region_of last.outline.ring.vertices = cc in
+    rw same (polygon_has_point last.outline.ring.vertices both.0.polygon)
 
-pub returns-in-Ok-clause-accepted : goal.returns-in-Ok-clause-accepted
-returns-in-Ok-clause-accepted c =
+pub returns-clause-accepted : goal.returns-clause-accepted
+returns-clause-accepted c =
     let last = c.read_lines.new.machine in
     let read : IsRead Steps IsEnd start c.args.text.now last = rw c.new-reader.ensures at c.in_ok-read_lines.ensures.read in
     let both = read_is_text c.args.text.now last read in
-    let vertices : c.into_parts-vertices.result.0 ≡ last.ring.vertices = c.into_parts-vertices.ensures.vertices in
-    let region : Some c.in-Some.region ≡ Some (region_of last.ring.vertices) = sym c.in-Some.is ∙ c.into_parts-vertices.ensures.region ∙ both.1 in
-    let same : c.in-Some.region ≡ region_of last.ring.vertices = cc in
-    let cell : c.in-Ok.cell ≡ region_of last.ring.vertices = c.in-Ok.ensures ∙ same in
+    let vertices : c.into_parts-vertices.result.0 ≡ last.outline.ring.vertices = c.into_parts-vertices.ensures.vertices in
+    let region : Some c.in-Some.region ≡ Some (region_of last.outline.ring.vertices) = sym c.in-Some.is ∙ c.into_parts-vertices.ensures.region ∙ both.1 in
+    let same : c.in-Some.region ≡ region_of last.outline.ring.vertices = cc in
+    let cell : c.in_ok-inhabited.field-0 ≡ region_of last.outline.ring.vertices = c.in_ok-inhabited.ensures ∙ same in
     (rw (← vertices) at both.0, rw (← vertices) at cell)

@@ -34,5 +34,5 @@ returns-clause-some c =
     let near : IsNear c.in_ok-r.r = c.if-not-near.ensures.0 (search rules) in
     let narrow : IsNarrow z = rw (to_z-of_z a, to_z-of_z b) at (c.if-not-is_narrow.ensures.0 (search rules)) in
     let low : pos 0 ≤ℤ said.5 = let h = c.if-steps-lt0.false in omega (arith, ints, to_z-of_z n) in
-    let high : said.5 ≤ℤ pos 100000 = let h = c.if-steps-gt-MOST_STEPS.false in omega (arith, ints, to_z-of_z n) in
+    let high : said.5 ≤ℤ pos 100000 = let h = c.if-steps-from.false in omega (arith, ints, to_z-of_z n) in
     rw (to_z-of_z a, to_z-of_z b, to_z-of_z n) (asked c.in_ok-r.r said.0 said.1 said.2 said.3 said.4 said.5 is sized near narrow low high)

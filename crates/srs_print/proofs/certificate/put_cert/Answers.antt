@@ -1,7 +1,7 @@
 use Rattle.std.proofs.Common.{◌≡◌, ◌++◌, codes, flat_map}
 use Rattle.std.proofs.lemmas.Result.{err_from_is_err_and, on_err_weaker}
-use Rattle.srs_file.specs.Texts.{head_text, outcome_text, ended}
-use Rattle.srs_file.specs.Certificates.{outcomes_of}
+use Rattle.srs_cert.specs.Texts.{head_text, outcome_text, ended}
+use Rattle.srs_cert.specs.Certificates.{outcomes_of}
 use Rattle.srs_print.specs.Fronts.{StopsIn}
 use Rattle.srs_print.proofs.FrontLemmas.{nothing, sooner, later, both}
 use Rattle.srs_print.proofs.certificate.put_cert.Goals as goal

@@ -1,6 +1,6 @@
 use Rattle.std.proofs.Common.{◌++◌, codes}
 use Rattle.std.proofs.lemmas.Result.{err_from_is_err_and, on_err_weaker}
-use Rattle.srs_file.specs.Texts.{count_text, ring_text, limits_text}
+use Rattle.srs_cert.specs.Texts.{count_text, ring_text, limits_text}
 use Rattle.srs_print.specs.Fronts.{StopsIn}
 use Rattle.srs_print.proofs.FrontLemmas.{sooner, later, both}
 use Rattle.srs_print.proofs.certificate.put_head.Goals as goal

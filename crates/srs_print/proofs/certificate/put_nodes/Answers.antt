@@ -2,8 +2,8 @@ use Rattle.std.proofs.Common.{◌≡◌, ◌++◌, Some, slice_get}
 use Rattle.std.proofs.lemmas.Option.{slice_get-map}
 use Rattle.std.proofs.lemmas.Result.{err_from_is_err_and}
 use Rattle.srs_path.specs.Views.{Entry}
-use Rattle.srs_file.specs.Texts.{outcome_text}
-use Rattle.srs_file.specs.Certificates.{outcomes_of}
+use Rattle.srs_cert.specs.Texts.{outcome_text}
+use Rattle.srs_cert.specs.Certificates.{outcomes_of}
 use Rattle.srs_print.specs.Fronts.{StopsIn}
 use Rattle.srs_print.proofs.FrontLemmas.{in_item, one_more}
 use Rattle.srs_print.proofs.certificate.put_nodes.Goals as goal

@@ -1,5 +1,5 @@
 use Rattle.std.proofs.Common.{length, codes, flat_map}
-use Rattle.srs_file.specs.Texts.{count_text, vertex_text}
+use Rattle.srs_cert.specs.Texts.{count_text, vertex_text}
 use Rattle.srs_print.proofs.FrontLemmas.{sooner}
 use Rattle.std.proofs.lemmas.Result.{err_from_is_err_and}
 use Rattle.srs_print.proofs.certificate.put_ring.Goals as goal

@@ -3,7 +3,7 @@ use Rattle.std.proofs.lemmas.Option.{slice_get-get_or}
 use Rattle.std.proofs.lemmas.Result.{err_from_is_err_and}
 use Rattle.srs_plane.specs.declared.halves.Kind.TheVariants.{Ge}
 use Rattle.srs_plane.specs.declared.polygons.Vertex.{Vertex}
-use Rattle.srs_file.specs.Texts.{vertex_text}
+use Rattle.srs_cert.specs.Texts.{vertex_text}
 use Rattle.srs_print.proofs.FrontLemmas.{in_item}
 use Rattle.srs_print.proofs.certificate.put_vertices.Goals as goal
 

@@ -1,6 +1,6 @@
 use Rattle.std.proofs.Common.{◌≡◌, ◌++◌, take}
 use Rattle.std.specs.List.{flat_map}
-use Rattle.srs_file.specs.Texts.{vertex_text}
+use Rattle.srs_cert.specs.Texts.{vertex_text}
 use Rattle.srs_print.proofs.certificate.put_vertices.Given as goal
 
 abbrev pub invariant-loop-v : goal.invariant-loop-v

@@ -1,5 +1,5 @@
 use Rattle.std.proofs.lemmas.Result.{err_from_is_err_and}
-use Rattle.srs_file.specs.Texts.{rank_text}
+use Rattle.srs_cert.specs.Texts.{rank_text}
 use Rattle.srs_print.proofs.FrontLemmas.{in_item, one_more}
 use Rattle.srs_print.proofs.node.put_ranks.Goals as goal
 

@@ -1,7 +1,7 @@
 use Rattle.std.proofs.Common.{◌++◌, ◌∷◌, []}
 use Rattle.std.proofs.lemmas.Result.{err_from_is_err_and}
 use Rattle.srs_tree.specs.Answers.{reply_of}
-use Rattle.srs_file.specs.Sayings.{place_text, reply_text}
+use Rattle.srs_cert.specs.Sayings.{place_text, reply_text}
 use Rattle.srs_print.proofs.FrontLemmas.{sooner, later}
 use Rattle.srs_print.proofs.said.put_answer.Goals as goal
 

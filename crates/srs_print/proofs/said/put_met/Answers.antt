@@ -1,6 +1,6 @@
 use Rattle.std.proofs.Common.{◌++◌, ◌∷◌, [], codes}
 use Rattle.std.proofs.lemmas.Result.{err_from_is_err_and}
-use Rattle.srs_file.specs.Sayings.{word_if}
+use Rattle.srs_cert.specs.Sayings.{word_if}
 use Rattle.srs_print.proofs.FrontLemmas.{sooner, later, both}
 use Rattle.srs_print.proofs.said.put_met.Goals as goal
 

@@ -1,6 +1,6 @@
 use Rattle.std.proofs.Common.{◌≡◌, codes}
 use Rattle.std.proofs.lemmas.Result.{on_err_weaker}
-use Rattle.srs_file.specs.Texts.{cause_text}
+use Rattle.srs_cert.specs.Texts.{cause_text}
 use Rattle.srs_print.proofs.FrontLemmas.{nothing, later}
 use Rattle.srs_print.proofs.said.put_open.Goals as goal
 

@@ -2,7 +2,7 @@
 use Rattle.std.proofs.Common.{List, take, sym, subst, arith}
 use Rattle.std.proofs.lemmas.List.{take_all}
 use Rattle.srs_tree.specs.declared.queries.Query.{Query}
-use Rattle.srs_file.proofs.Preordered.{take_here}
+use Rattle.srs_cert.proofs.Preordered.{take_here}
 use Rattle.srs_tool.specs.Replies.{IsReplyText}
 use Rattle.srs_tool.proofs.Replying.{replies_none, one_reply_more}
 use Rattle.srs_tool.proofs.ask.uncounted.Goals as goal

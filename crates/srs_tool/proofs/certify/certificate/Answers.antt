@@ -2,7 +2,7 @@ use Rattle.std.proofs.Common.{ℕ, List, ◌++◌, sym, ap, ap₂, subst, ◌∙
 use Rattle.srs_plane.specs.declared.polygons.Vertex.{Vertex}
 use Rattle.srs_tree.specs.Tree.{History}
 use Rattle.srs_tree.specs.WholeTrees.{ListsWholeTree, IsWithin}
-use Rattle.srs_file.specs.Certificates.{cert_text}
+use Rattle.srs_cert.specs.Certificates.{cert_text}
 use Rattle.srs_plane.proofs.Ring_of_vertices.{few_halves}
 use Rattle.srs_tool.proofs.Certifying.{refined_listed, certificate_of}
 use Rattle.srs_tool.proofs.certify.certificate.Goals as goal

@@ -1,18 +1,15 @@
 use Rattle.std.proofs.Common.{arith}
-use Rattle.srs_tool.proofs.WordLemmas.{spelled_budget, none_by_range}
+use Rattle.srs_tool.proofs.Spelling.{if_none}
 use Rattle.srs_tool.proofs.words.limits_of.Goals as goal
 
-pub returns-in-None-clause-none : goal.returns-in-None-clause-none
-returns-in-None-clause-none c = λ b s. c.in-None.ensures.none b.depth (omega (arith, s.budget.depth)) s.depth_is
+pub returns-in_err-most_depth-clause-none : goal.returns-in_err-most_depth-clause-none
+returns-in_err-most_depth-clause-none c =
+    if_none c.from_residual.result (λ b are budget. c.in_err-most_depth.ensures.none b.depth (omega (arith, budget.depth)) are.0)
 
-pub returns-in-None-count_of-clause-none : goal.returns-in-None-count_of-clause-none
-returns-in-None-count_of-clause-none c = λ b s. c.in-None-count_of.ensures.none b.cells (omega (arith, s.budget.cells)) s.cells_is
+pub returns-in_err-most_cells-clause-none : goal.returns-in_err-most_cells-clause-none
+returns-in_err-most_cells-clause-none c =
+    if_none c.from_residual-in_err-most_cells.result (λ b are budget. c.in_err-most_cells.ensures.none b.cells (omega (arith, budget.cells)) are.1.0)
 
-pub returns-in-None-count_of-2-clause-none : goal.returns-in-None-count_of-2-clause-none
-returns-in-None-count_of-2-clause-none c = λ b s. c.in-None-count_of-2.ensures.none b.wits (omega (arith, s.budget.wits)) s.wits_is
-
-pub returns-in-Some-count_of-2-clause-none : goal.returns-in-Some-count_of-2-clause-none
-returns-in-Some-count_of-2-clause-none c =
-    none_by_range c.new.result c.new.ensures.none
-    (λ b s. spelled_budget c.args.depth.now c.args.cells.now c.args.wits.now c.in-Some.n c.in-Some-count_of.n c.in-Some-count_of-2.most_wits b
-    c.in-Some.ensures.some c.in-Some-count_of.ensures.some c.in-Some-count_of-2.ensures.some s)
+pub returns-in_err-most_wits-clause-none : goal.returns-in_err-most_wits-clause-none
+returns-in_err-most_wits-clause-none c =
+    if_none c.from_residual-in_err-most_wits.result (λ b are budget. c.in_err-most_wits.ensures.none b.wits (omega (arith, budget.wits)) are.1.1.0)

@@ -16,4 +16,4 @@ ask-requires c =
     let ring = c.args.self.now.ring in
     let region : Some c.in-Some.region ≡ Some (region_of ring.vertices) = sym c.in-Some.is ∙ c.close.ensures.region ∙ c.requires.1 in
     let same : c.in-Some.region ≡ region_of ring.vertices = cc in
-    few_halves ring.vertices c.in-Ok.cell c.requires.0.counted (c.in-Ok.ensures ∙ same)
+    few_halves ring.vertices c.in_ok-cell.cell c.requires.0.counted (c.in_ok-cell.ensures ∙ same)

@@ -1,0 +1,5 @@
+pub mod LineCounts
+pub mod NodeLines
+pub mod Preordered
+pub mod LtParts
+pub mod Descents

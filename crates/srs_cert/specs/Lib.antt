@@ -1,0 +1,5 @@
+pub mod Texts
+pub mod Certificates
+pub mod Heights
+pub mod Sayings
+pub mod Lives

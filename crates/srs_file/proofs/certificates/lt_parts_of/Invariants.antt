@@ -1,5 +1,0 @@
-use Rattle.srs_file.proofs.LtParts.{PartsSoFar}
-use Rattle.srs_file.proofs.certificates.lt_parts_of.Given as goal
-
-abbrev pub invariant-loop-i : goal.invariant-loop-i
-invariant-loop-i l = PartsSoFar l.events l.places.items l.open.items l.i

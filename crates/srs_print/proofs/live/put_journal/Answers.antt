@@ -1,0 +1,12 @@
+use Rattle.std.proofs.Common.{length, codes, flat_map}
+use Rattle.std.proofs.lemmas.Result.{err_from_is_err_and}
+use Rattle.srs_cert.specs.Texts.{count_text}
+use Rattle.srs_cert.specs.Lives.{event_text}
+use Rattle.srs_print.proofs.FrontLemmas.{sooner}
+use Rattle.srs_print.proofs.live.put_journal.Goals as goal
+
+pub returns-in_err-put_count-clause-err : goal.returns-in_err-put_count-clause-err
+returns-in_err-put_count-clause-err c =
+    let p = err_from_is_err_and c.from_residual.result c.from_residual.ensures.1 in
+    let head = count_text (codes "journal") (length c.args.journal.now) in
+    rw p.1 (sooner c.args.out.now head (flat_map event_text c.args.journal.now) c.put_count.new.out (rw c.len.ensures.len at c.in_err-put_count.ensures.err))

@@ -1,0 +1,46 @@
+-- Words ask for one command, whose numbers are in their ranges.
+use Rattle.std.proofs.Common.{◌≡◌, ℕ, ℤ, List, [], ◌∷◌, pos, refl, sym, ap₂, subst, ◌∙◌, Option, Some, None}
+use Rattle.std.specs.Prelude.{if◌then◌else◌, eqb, sum, codes}
+use Rattle.std.proofs.lemmas.Option.{same_Some}
+use Rattle.srs_text.proofs.Spellings.{number_once}
+use Rattle.srs_line.specs.Fields.{AreNumbers}
+use Rattle.srs_tool.specs.declared.commands.Command.{Command}
+use Rattle.srs_tool.specs.declared.commands.Command.TheVariants.{Certify, Check, Map, Ask}
+use Rattle.srs_tool.specs.Words.{name_of, numbers_of, Asks}
+
+same_numbers : (ts : List (List ℕ)) (ys zs : List ℤ) → AreNumbers ts ys → AreNumbers ts zs → ys ≡ zs
+same_numbers [] [] [] h k = refl
+same_numbers [] [] (z ∷ zs) h k = absurd k
+same_numbers [] (y ∷ ys) zs h k = absurd h
+same_numbers (t ∷ ts) [] zs h k = absurd h
+same_numbers (t ∷ ts) (y ∷ ys) [] h k = absurd k
+same_numbers (t ∷ ts) (y ∷ ys) (z ∷ zs) h k = ap₂ (λ (a : ℤ) (b : List ℤ). a ∷ b) (number_once t y z h.0 k.0) (same_numbers ts ys zs h.1 k.1)
+
+abbrev certifying : List ℤ → Option Command
+certifying (pos depth ∷ pos cells ∷ pos wits ∷ []) = Some (Certify (record { depth = depth; cells = cells; wits = wits }))
+certifying _ = None
+
+abbrev drawing : List ℤ → Option Command
+drawing (pos columns ∷ pos rows ∷ []) = Some (Map columns rows)
+drawing _ = None
+
+-- the command with this name and these numbers: names differ in the sum of their bytes
+abbrev named : ℕ → List ℤ → Option Command
+named key numbers =
+    (if eqb key (sum (codes "certify")) then certifying numbers
+    else (if eqb key (sum (codes "check")) then Some Check
+    else (if eqb key (sum (codes "map")) then drawing numbers
+    else (if eqb key (sum (codes "ask")) then Some Ask else None))))
+
+named_is : (c : Command) → named (sum (name_of c)) (numbers_of c) ≡ Some c
+named_is (Certify limits) = refl
+named_is Check = refl
+named_is (Map columns rows) = refl
+named_is Ask = refl
+
+pub one_command : (words : List (List ℕ)) (c d : Command) → Asks words c → Asks words d → c ≡ d
+one_command [] c d h k = absurd h.0
+one_command (first ∷ others) c d h k =
+    let names : sum (name_of c) ≡ sum (name_of d) = cc (h.0.0, k.0.0) in
+    let numbers : numbers_of c ≡ numbers_of d = same_numbers others (numbers_of c) (numbers_of d) h.0.1 k.0.1 in
+    same_Some c d (sym (named_is c) ∙ ap₂ named names numbers ∙ named_is d)

@@ -1,0 +1,54 @@
+// What the program does, and what it reads for that.
+ghost use Rattle.std.specs.Prelude.{◌≡◌};
+ghost use Rattle.srs_tool.specs.Inputs.{input_of, longest};
+
+use srs_path::Limits;
+
+/// What the words ask for.
+#[derive(Drop)]
+pub enum Command {
+    /// To divide the polygon that is read, and print its certificate.
+    Certify(Limits),
+    /// To check the certificate that is read.
+    Check,
+    /// To check the certificate that is read, and print its map: so many columns and rows, each 1 to 200.
+    Map(u32, u32),
+    /// To check the certificate that is read, and answer the questions behind it.
+    Ask,
+}
+
+impl Command {
+    /// What the command reads.
+    pub fn input(&self) -> Input
+        ensures { result ≡ input_of self.now }
+    {
+        match self {
+            Command::Certify(_) => Input::Polygon,
+            Command::Check | Command::Map(_, _) => Input::Certificate,
+            Command::Ask => Input::Questions,
+        }
+    }
+}
+
+/// What is read.
+#[derive(Clone, Copy, Drop)]
+pub enum Input {
+    /// A polygon: at most 2^20 bytes.
+    Polygon,
+    /// A certificate: at most 2^27 bytes.
+    Certificate,
+    /// A certificate and questions behind it: at most 2^27 bytes.
+    Questions,
+}
+
+impl Input {
+    /// The longest such input that is read, in bytes.
+    pub fn longest(self) -> u64
+        ensures { result ≡ longest self }
+    {
+        match self {
+            Input::Polygon => 1 << 20,
+            Input::Certificate | Input::Questions => 1 << 27,
+        }
+    }
+}

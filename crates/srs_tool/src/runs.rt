@@ -1,0 +1,109 @@
+// Runs of `plain` over memory, for the tests of the commands.
+use crate::plain::plain;
+use crate::status::Status;
+use srs_text::{Bytes, Lines, MemSink, MemSource, Nums};
+use std::alloc::{AllocError, Global};
+use std::test::Fail;
+
+// The room of a sink, in bytes.
+const ROOM: u64 = 1 << 26;
+
+/// No read or write has this number.
+pub(crate) const NEVER: i64 = -1;
+
+/// Words, an input, and what is written.
+pub(crate) type Row = (&'static str, &'static str, &'static str);
+
+/// What came of a run: its status, what was written, and what was left unread.
+#[derive(Drop)]
+pub(crate) struct Seen {
+    pub status: Status,
+    pub sink: MemSink,
+    pub source: MemSource,
+}
+
+/// The run on these words and this input, which comes in pieces, in which one read and one write fail.
+pub(crate) fn failing(
+    alloc: Global,
+    words: &str,
+    input: &[&[u8]],
+    read: i64,
+    write: i64,
+) -> Result<Seen, Fail> {
+    let words = words_of(alloc, words)?;
+    let mut text = Bytes::new(alloc);
+    for piece in input {
+        text.extend(piece)?;
+    }
+    let mut reads = Nums::new(alloc);
+    reads.push(read)?;
+    let mut writes = Nums::new(alloc);
+    writes.push(write)?;
+    let mut source = MemSource::new(text, reads);
+    let mut sink = MemSink::new(alloc, ROOM, writes)?;
+    let status = plain(alloc, words.as_slice(), &mut source, &mut sink);
+    Ok(Seen {
+        status,
+        sink,
+        source,
+    })
+}
+
+/// The run on these words and this input, which comes in pieces.
+pub(crate) fn play(alloc: Global, words: &str, input: &[&[u8]]) -> Result<Seen, Fail> {
+    failing(alloc, words, input, NEVER, NEVER)
+}
+
+fn words_of(alloc: Global, line: &str) -> Result<Vec<String>, AllocError> {
+    let mut words = Vec::new(alloc);
+    if !line.is_empty() {
+        for word in line.split(' ') {
+            words.push(String::from_str(alloc, word)?)?;
+        }
+    }
+    Ok(words)
+}
+
+/// The place of the first row whose run doesn't end with the status, or writes something else; none where all do.
+pub(crate) fn first_other(
+    alloc: Global,
+    rows: &[Row],
+    status: Status,
+) -> Result<Option<usize>, Fail> {
+    for (i, (words, input, output)) in rows.iter().enumerate() {
+        let seen = play(alloc, words, &[input.as_bytes()])?;
+        if seen.status != status || seen.sink.bytes() != output.as_bytes() {
+            return Ok(Some(i));
+        }
+    }
+    Ok(None)
+}
+
+/// The same for runs on the same words, where each input is the head and what the row has behind it.
+pub(crate) fn first_other_of(
+    alloc: Global,
+    words: &str,
+    head: &str,
+    rows: &[(&str, &str)],
+    status: Status,
+) -> Result<Option<usize>, Fail> {
+    for (i, (more, output)) in rows.iter().enumerate() {
+        let seen = play(alloc, words, &[head.as_bytes(), more.as_bytes()])?;
+        if seen.status != status || seen.sink.bytes() != output.as_bytes() {
+            return Ok(Some(i));
+        }
+    }
+    Ok(None)
+}
+
+/// How many lines of the text begin so.
+pub(crate) fn lines_that_start(text: &[u8], start: &[u8]) -> usize {
+    let mut lines = Lines::new(text);
+    let mut count = 0;
+    while let Some(line) = lines.next() {
+        if line.starts_with(start) {
+            count += 1;
+        }
+    }
+    count
+}
