@@ -26,3 +26,4 @@ pub mod Listed
 pub mod Ways
 pub mod Meeting
 pub mod Clipping
+pub mod Crossing
