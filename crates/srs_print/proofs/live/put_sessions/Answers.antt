@@ -1,4 +1,5 @@
-use Rattle.std.proofs.Common.{◌≡◌, ◌+◌, ℕ, List, Some, slice_get, get_or, refl, ◌∙◌, arith}
+use Rattle.std.proofs.Common.{◌≡◌, ◌≤◌, ◌+◌, ℕ, List, length, Some, slice_get, get_or, refl, ◌∙◌, arith}
+use Rattle.std.proofs.lemmas.List.{take_all}
 use Rattle.std.specs.List.{enumerate_from}
 use Rattle.std.proofs.lemmas.Result.{err_from_is_err_and}
 use Rattle.std.proofs.lemmas.Option.{slice_get-get_or, slice_get_within, get_or_from_slice_get}
@@ -25,3 +26,10 @@ returns-in_err-put_session-clause-err c =
 pub loop-i-preserved : goal.loop-i-preserved
 loop-i-preserved c =
     one_more session_text (enumerate_from 1 c.args.told.now) c.loop-i.i (c.loop-i.i + 1, c.get.result.now) c.args.out.now c.loop-i.out c.put_session.new.out (numbered c.args.told.now c.loop-i.i c.get.result.now c.get.ensures) c.loop-i.invariant c.in_ok-put_session.ensures.ok
+
+pub returns-clause-ok : goal.returns-clause-ok
+returns-clause-ok c =
+    let told = c.args.told.now in
+    let numbered = enumerate_from 1 told in
+    let end : length numbered ≤ c.loop-i.i = omega (arith, length-enumerate_from 1 told) in
+    rw (take_all c.loop-i.i numbered end) at c.loop-i.invariant
