@@ -4,7 +4,7 @@ use crate::plain::{Plain, is_outcome, path_of};
 use srs_cell::Cell;
 use srs_path::{Finding, Last, Outcome, Path, Side};
 use srs_refine::refine;
-use srs_tree::{TreeErr, Version};
+use srs_tree::{Pending, TreeBuilder, TreeErr, Version};
 use std::alloc::Global;
 use std::test::Fail;
 
@@ -125,24 +125,49 @@ fn entries(rt: HostRuntime) -> Result<(), Fail> {
     Ok(())
 }
 
-// How many halves the two cells have that the finding of the part makes, where it is a cut; and what the version has then.
-fn added(alloc: Global, version: &mut Version, cuts: &[Cut]) -> Result<Option<(u32, u32)>, Fail> {
-    let finding = finding_of(alloc, cuts, None)?;
-    match version.add(alloc, Path::root(), finding) {
-        Ok(Some((ge, lt))) => Ok(Some((ge.cell.region().len(), lt.cell.region().len()))),
-        Ok(None) => Ok(None),
+// How many halves the parts have, where there are two.
+fn halves(parts: &Option<(Pending, Pending)>) -> Option<(u32, u32)> {
+    match parts {
+        Some((ge, lt)) => Some((ge.cell.region().len(), lt.cell.region().len())),
+        None => None,
+    }
+}
+
+// The tree with the root's finding, and how many halves the two cells have that it makes.
+fn built(alloc: Global) -> Result<(Version, Option<(u32, u32)>), Fail> {
+    let cell = cell_of(alloc, SPLIT)?;
+    if cell.region().len() > 16 {
+        Err("it has three halves")?;
+    }
+    let mut tree = TreeBuilder::start(alloc, cell)?;
+    let root = tree.root()?;
+    match tree.add(alloc, root.path, finding_of(alloc, &[], None)?) {
+        Ok(parts) => Ok((tree.finish(), halves(&parts))),
+        Err(_) => Err("it is entered")?,
+    }
+}
+
+// The same by a version that grows.
+fn grown(alloc: Global) -> Result<(Version, Option<(u32, u32)>, bool), Fail> {
+    let version = start(alloc)?;
+    match version.grown(alloc, Path::root(), finding_of(alloc, &[], None)?) {
+        Ok(grown) => {
+            let same = cut(&grown.outcome) == Some((0, 1, 0));
+            Ok((grown.version, halves(&grown.parts), same && version.count() == 0))
+        }
         Err(_) => Err("it is entered")?,
     }
 }
 
 #[test]
-fn added_cells(rt: HostRuntime) -> Result<(), Fail> {
+fn cells_of_a_cut(rt: HostRuntime) -> Result<(), Fail> {
     let alloc = rt.alloc();
-    let mut version = start(alloc)?;
-    assert_eq!(rt; added(alloc, &mut version, &[])?, Some((4, 4)));
+    let (version, parts) = built(alloc)?;
+    assert_eq!(rt; parts, Some((4, 4)));
     assert!(rt; has(alloc, &version, 1, ONE)?);
-    let root = start(alloc)?.root()?;
-    assert_eq!(rt; (root.path.len(), root.cell.region().len()), (0, 3));
+    let (other, parts, same) = grown(alloc)?;
+    assert_eq!(rt; (parts, same), (Some((4, 4)), true));
+    assert!(rt; has(alloc, &other, 1, ONE)?);
     Ok(())
 }
 
