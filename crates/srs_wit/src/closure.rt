@@ -6,13 +6,17 @@ ghost use Rattle.srs_plane.specs.Regions.{Area};
 ghost use Rattle.srs_path.specs.Witnesses.{IsWitness, IsSmall};
 ghost use Rattle.srs_wit.specs.Listing.{AreAllWitnesses, AreTooMany, IsExcess};
 ghost use Rattle.srs_wit.specs.Halves.{AreNarrow, count_both, with_opposites};
-ghost use Rattle.srs_wit.specs.Search.{AreHalf, AreFound, Adds, Extends, IsClosedAt, HasUnits, AreAll, IsStop};
+ghost use Rattle.srs_num.specs.Points.{IsWithin};
+ghost use Rattle.srs_cell.specs.Spans.{IsCount};
+ghost use Rattle.srs_wit.specs.Spans.{ArePairsNarrow};
+ghost use Rattle.srs_wit.specs.Search.{AreHalf, AreFound, Adds, AddsLinks, Extends, IsClosedAt, HasUnits, AreAll, IsStop};
 ghost use Rattle.srs_path.specs.declared.limits.TheConstants.{MOST_WITNESSES};
 
 use crate::halves::{upper, with_opposites};
 use crate::pair_set::PairSet;
 use crate::sets::{Big, WitErr, WitSet};
-use crate::spans::{first_pairs, is_downward, place, wide_end};
+use crate::runs::run_of;
+use crate::spans::{first_pairs, wide_end};
 use srs_cell::{Cell, Span};
 use srs_num::{NoMemory, Pairs, V2};
 use std::alloc::Global;
@@ -151,7 +155,6 @@ impl Search {
     }
 
     // Adds a witness, which stands for the one on the other side too.
-    #[inline(always)]
     fn add(&mut self, v: V2) -> Result<(), NoMemory>
         requires { IsNarrow v }
         ensures { OnOk result (Adds self.old.found self.old.origin v self.new.found self.new.origin self.old.waiting.items self.new.waiting.items) }
@@ -186,6 +189,46 @@ impl Search {
         self.within(bound)
     }
 
+    // Adds the pairs that begin with (0,0)'s second entry: some of them come before (0,0), and some after it.
+    fn add_center_row(&mut self, w: V2, span: Span, n: u64) -> Result<(), NoMemory>
+        requires low { IsWithin (2 ^ 41) span.low }
+        requires count { IsCount span.low span.high n }
+        requires narrow { ArePairsNarrow w span.low span.high }
+        ensures {
+            OnOk result (AddsLinks self.old.found self.old.origin w span.low span.high n self.new.found
+                self.new.origin self.old.waiting.items self.new.waiting.items)
+        }
+    {
+        for k in 0..n {
+            self.add(span.pair(w, k))?;
+        }
+        Ok(())
+    }
+
+    // Adds the pairs of the span of `w`, of which there are `n`. Those that begin with one number other than 0 are all on one
+    // side of (0,0). The one with the greatest second entry in magnitude comes last, so that its links are followed first:
+    // where there are too many witnesses, this way outwards mostly meets them sooner.
+    fn add_row(&mut self, w: V2, span: Span, n: u64) -> Result<(), NoMemory>
+        requires first { IsNarrow w }
+        requires low { IsWithin (2 ^ 41) span.low }
+        requires high { IsWithin (2 ^ 41) span.high }
+        requires count { IsCount span.low span.high n }
+        requires narrow { ArePairsNarrow w span.low span.high }
+        ensures {
+            OnOk result (AddsLinks self.old.found self.old.origin w span.low span.high n self.new.found
+                self.new.origin self.old.waiting.items self.new.waiting.items)
+        }
+    {
+        if w.b == 0 {
+            return self.add_center_row(w, span, n);
+        }
+        let run = run_of(w, span, n);
+        if w.b > 0 {
+            return self.found.add_run(run, &mut self.waiting);
+        }
+        self.found.add_run(run.mirrored(), &mut self.waiting)
+    }
+
     // Adds all that a witness links to. A span longer than the bound shows too many witnesses by itself.
     fn add_links(&mut self, cell: &Cell, bound: u32, w: V2) -> Result<(), Stop>
         requires narrow { IsNarrow w }
@@ -204,14 +247,9 @@ impl Search {
         if let Some(v) = wide_end(w, span) {
             return Err(Stop::Wide(v));
         }
-        // The pair with the greatest second entry in magnitude comes last, so that its links are followed first: where there
-        // are too many witnesses, this way outwards mostly meets them sooner.
-        let back = is_downward(span);
-        for k in 0..n {
-            let Ok(()) = self.add(span.pair(w, place(back, n, k))) else {
-                return Err(Stop::NoMemory);
-            };
-        }
+        let Ok(()) = self.add_row(w, span, n) else {
+            return Err(Stop::NoMemory);
+        };
         self.within(bound)
     }
 

@@ -2,7 +2,7 @@
 ghost use Rattle.std.specs.Prelude.{◌≡◌, ◌≤◌, ◌<◌, ◌^◌, ◌↔◌, pos, ◌+ℤ◌, ◌<ℤ◌, IsTrue, IfOk, MatchOption};
 ghost use Rattle.srs_num.specs.Points.{IsWithin};
 ghost use Rattle.srs_map.specs.Step.{IsNarrow};
-ghost use Rattle.srs_wit.specs.Spans.{place_in, pairs_from, ArePairsNarrow, IsWideAmong};
+ghost use Rattle.srs_wit.specs.Spans.{pairs_from, ArePairsNarrow, IsWideAmong};
 
 use srs_cell::Span;
 use srs_map::MOST_ENTRY;
@@ -16,15 +16,6 @@ pub(crate) fn is_downward(span: Span) -> bool
     ensures { IsTrue result ↔ ((span.low +ℤ span.high) <ℤ pos 0) }
 {
     span.low + span.high < 0
-}
-
-// The place of the `k`th of `n` pairs, from the first one on or, where `back` says so, from the last one back.
-pub(crate) fn place(back: bool, n: u64, k: u64) -> u64
-    requires { k < n }
-    ensures place { result ≡ place_in back n k }
-    ensures within { result < n }
-{
-    if back { n - 1 - k } else { k }
 }
 
 // A pair of the span of `w` with an entry past 2^37, if there is one: then one of the two ends is such a pair.
