@@ -114,11 +114,13 @@ module _ (w : V2) (low high : ℤ) (n : ℕ) (r : Run) (c : IsCount low high n) 
     pub to_run : (i : ℕ) → i < n → (k : ℕ) × (k < n) × (run_pair r k ≡ pair_from w low i)
     to_run i l =
         let k = place_in_span r.back i in
-        let f = from_run k (place_within r.back i l) in
-        (k, place_within r.back i l,
-        ap (λ (x : ℤ). pair x (if r.back then r.first -ℤ pos k else r.first +ℤ pos k)) is.a
-        ∙ ap (pair w.b) (second_at r.back r.first k (place_within r.back i l) is.first)
-        ∙ ap (pair_from w low) (place_twice r.back i l))
+        let f = from_run k (place_within r.back i l) in (
+          k,
+          place_within r.back i l,
+          ap (λ (x : ℤ). pair x (if r.back then r.first -ℤ pos k else r.first +ℤ pos k)) is.a
+              ∙ ap (pair w.b) (second_at r.back r.first k (place_within r.back i l) is.first)
+              ∙ ap (pair_from w low) (place_twice r.back i l),
+        )
 
 -- the run on the other side
 pub turned_pair : (r : Run) (k : ℕ) → run_pair (turned r) k ≡ minus (run_pair r k)

@@ -27,7 +27,8 @@ pub record AreFound (R : Area) (W : ℕ) (ws : List V2) (met : Bool) : Type 0 wh
   pub few : count_both ws met ≤ W
 
 -- v is held: what is new of it is the last of those found, and waits
-pub record Adds (old : List V2) (was : Bool) (v : V2) (new : List V2) (met : Bool) (waited waiting : List V2) : Type 0 where
+pub record Adds (old : List V2) (was : Bool) (v : V2) (new : List V2) (met : Bool)
+    (waited waiting : List V2) : Type 0 where
   pub more : List V2
   pub is : new ≡ old ++ more
   pub waits : waiting ≡ waited ++ more
@@ -40,7 +41,8 @@ pub record Adds (old : List V2) (was : Bool) (v : V2) (new : List V2) (met : Boo
   pub few : count_both new met ≤ count_both old was + 2
 
 -- more were found, after the old ones, and all of these wait
-pub record Extends (R : Area) (old : List V2) (was : Bool) (new : List V2) (met : Bool) (waited waiting : List V2) : Type 0 where
+pub record Extends (R : Area) (old : List V2) (was : Bool) (new : List V2) (met : Bool)
+    (waited waiting : List V2) : Type 0 where
   pub more : List V2
   pub is : new ≡ old ++ more
   pub waits : waiting ≡ waited ++ more
@@ -48,7 +50,8 @@ pub record Extends (R : Area) (old : List V2) (was : Bool) (new : List V2) (met 
   pub half : AreHalf R new met
 
 -- the first n pairs that begin with the second entry of w, from low on, were added
-pub record Added (R : Area) (W : ℕ) (old : List V2) (was : Bool) (w : V2) (low : ℤ) (n : ℕ) (new : List V2) (met : Bool) (waited waiting : List V2) : Type 0 where
+pub record Added (R : Area) (W : ℕ) (old : List V2) (was : Bool) (w : V2) (low : ℤ) (n : ℕ)
+    (new : List V2) (met : Bool) (waited waiting : List V2) : Type 0 where
   pub extends : Extends R old was new met waited waiting
   pub few : count_both new met ≤ W + 2 * n
   pub done : (k : ℕ) → k < n → IsHeld new met (pair_from w low k)

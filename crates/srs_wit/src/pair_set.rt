@@ -58,7 +58,8 @@ fn number(side: usize, v: V2) -> Option<usize>
 fn insert_far(items: &mut Vec<V2>, far: &mut IndexSet<V2>, v: V2) -> Result<bool, NoMemory>
     ensures added { IfOk result (λ added. added ≡ not (has_pair far.old.keys v)) }
     ensures far { IfOk result (λ added. far.new.keys ≡ insert_key pair_eq far.old.keys v) }
-    ensures items { IfOk result (λ added. items.new.items ≡ (if added then items.old.items ++ v ∷ [] else items.old.items)) }
+    ensures items { IfOk result (λ added. items.new.items ≡
+        (if added then items.old.items ++ v ∷ [] else items.old.items)) }
     ensures err_far { OnErr result (far.new.keys ≡ far.old.keys) }
     ensures err_items { OnErr result (items.new.items ≡ items.old.items) }
 {
@@ -103,6 +104,7 @@ fn insert(
 }
 
 // Adds the pairs of the run. Those that are new wait too.
+#[inline(always)]
 fn add_run(
     items: &mut Vec<V2>,
     near: &mut MarkTable,
@@ -116,13 +118,12 @@ fn add_run(
     requires few { run.count ≤ 2 ^ 43 }
     requires narrow { (k : ℕ) → k < run.count → IsNarrow (run_pair run k) }
     ensures indexed { AreIndexed side items.new.items near.new.words.items far.new.keys }
-    ensures added {
-        OnOk result (AddsAll items.old.items (run_pair run) run.count items.new.items
-            waiting.old.items waiting.new.items)
-    }
+    ensures added { OnOk result (AddsAll items.old.items (run_pair run) run.count items.new.items
+        waiting.old.items waiting.new.items) }
 {
+    let step = run.step();
     for k in 0..run.count {
-        let v = run.pair(k);
+        let v = run.pair(step, k);
         if insert(items, near, far, side, v)? {
             waiting.push(v)?;
         }
@@ -179,17 +180,35 @@ impl PairSet {
     }
 
     // Adds the pairs of the run. Those that are new wait too.
+    #[inline(always)]
     pub(crate) fn add_run(&mut self, run: Run, waiting: &mut Vec<V2>) -> Result<(), NoMemory>
         requires first { IsWithin (2 ^ 41) run.first }
         requires few { run.count ≤ 2 ^ 43 }
         requires narrow { (k : ℕ) → k < run.count → IsNarrow (run_pair run k) }
-        ensures {
-            OnOk result (AddsAll self.old (run_pair run) run.count self.new waiting.old.items
-                waiting.new.items)
-        }
+        ensures { OnOk result (AddsAll self.old (run_pair run) run.count self.new waiting.old.items
+            waiting.new.items) }
     {
         let side = self.side;
-        add_run(&mut self.items, &mut self.near, &mut self.far, side, run, waiting)
+        // Two loops, each of which goes one way.
+        if run.back {
+            add_run(
+                &mut self.items,
+                &mut self.near,
+                &mut self.far,
+                side,
+                run,
+                waiting,
+            )
+        } else {
+            add_run(
+                &mut self.items,
+                &mut self.near,
+                &mut self.far,
+                side,
+                run,
+                waiting,
+            )
+        }
     }
 
     // Adds the pair, and says whether it is new.

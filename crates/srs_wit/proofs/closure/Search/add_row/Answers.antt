@@ -38,8 +38,8 @@ returns-then-w-gt0 c =
     on_ok_then c.add_run.result (AddsAll s.found (run_pair r) r.count new s.waiting.items waiting)
     (AddsLinks s.found s.origin w low high c.args.n new s.origin s.waiting.items waiting)
     (λ a R W wit found m.
-        run_added R W s.found s.origin w low high c.args.n wit found m c.requires.count c.requires.narrow (run_pair r) (run_ahead w low high c.args.n r c.requires.count is h)
-        new s.waiting.items waiting (subst (λ (n : ℕ). AddsAll s.found (run_pair r) n new s.waiting.items waiting) is.count a))
+    run_added R W s.found s.origin w low high c.args.n wit found m c.requires.count c.requires.narrow (run_pair r) (run_ahead w low high c.args.n r c.requires.count is h)
+    new s.waiting.items waiting (subst (λ (n : ℕ). AddsAll s.found (run_pair r) n new s.waiting.items waiting) is.count a))
     c.add_run.ensures
 
 pub add_run-requires-2-clause-first : goal.add_run-requires-2-clause-first
@@ -76,8 +76,8 @@ returns c =
     on_ok_then c.add_run-2.result (AddsAll s.found (run_pair q) q.count new s.waiting.items waiting)
     (AddsLinks s.found s.origin w low high c.args.n new s.origin s.waiting.items waiting)
     (λ a R W wit found m.
-        run_added R W s.found s.origin w low high c.args.n wit found m c.requires.count c.requires.narrow (run_pair (turned r)) (run_behind w low high c.args.n r c.requires.count is h)
-        new s.waiting.items waiting
-        (subst (λ (n : ℕ). AddsAll s.found (run_pair (turned r)) n new s.waiting.items waiting) is.count
-        (subst (λ (x : Run). AddsAll s.found (run_pair x) x.count new s.waiting.items waiting) c.mirrored.ensures a)))
+    run_added R W s.found s.origin w low high c.args.n wit found m c.requires.count c.requires.narrow (run_pair (turned r)) (run_behind w low high c.args.n r c.requires.count is h)
+    new s.waiting.items waiting
+    (subst (λ (n : ℕ). AddsAll s.found (run_pair (turned r)) n new s.waiting.items waiting) is.count
+    (subst (λ (x : Run). AddsAll s.found (run_pair x) x.count new s.waiting.items waiting) c.mirrored.ensures a)))
     c.add_run-2.ensures
