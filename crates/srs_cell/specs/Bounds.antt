@@ -6,15 +6,19 @@ use Rattle.srs_plane.specs.Regions.{Area, IsIn}
 use Rattle.srs_cell.specs.Hull.{IsAbove}
 use Rattle.srs_cell.specs.declared.bounds.Bound.{Bound}
 
--- num / den is the infimum of the form over the points of R: no point is below, and below each greater number there is a point
+-- num / den is the infimum of the form over the points of R: no point is below, and below each
+-- greater number there is a point
 pub record IsInfimum (R : Area) (f : LinearForm) (num den : ℤ) : Type 0 where
   pub bound : (z : Point) → IsIn R z → (num *ℤ z.d) ≤ℤ (den *ℤ value f z)
-  pub greatest : (n e : ℤ) → pos 1 ≤ℤ e → (num *ℤ e) <ℤ (n *ℤ den) → (z : Point) × IsIn R z × ((e *ℤ value f z) <ℤ (n *ℤ z.d))
+  pub greatest : (n e : ℤ) → pos 1 ≤ℤ e → (num *ℤ e) <ℤ (n *ℤ den) → (z : Point) × IsIn R z ×
+      ((e *ℤ value f z) <ℤ (n *ℤ z.d))
 
--- num / den is the supremum of the form over the points of R: no point is above, and above each smaller number there is a point
+-- num / den is the supremum of the form over the points of R: no point is above, and above each
+-- smaller number there is a point
 pub record IsSupremum (R : Area) (f : LinearForm) (num den : ℤ) : Type 0 where
   pub bound : (z : Point) → IsIn R z → (den *ℤ value f z) ≤ℤ (num *ℤ z.d)
-  pub least : (n e : ℤ) → pos 1 ≤ℤ e → (n *ℤ den) <ℤ (num *ℤ e) → (z : Point) × IsIn R z × ((n *ℤ z.d) <ℤ (e *ℤ value f z))
+  pub least : (n e : ℤ) → pos 1 ≤ℤ e → (n *ℤ den) <ℤ (num *ℤ e) → (z : Point) × IsIn R z ×
+      ((n *ℤ z.d) <ℤ (e *ℤ value f z))
 
 -- a point of R takes num / den
 abbrev pub Takes : Area → LinearForm → ℤ → ℤ → Type 0
@@ -52,14 +56,17 @@ pub record IsLeastCorner (f : LinearForm) (cs : List Point) (c : Point) : Type 0
   pub among : Contains cs c
   pub least : IsLeast f cs c
 
--- total adds up corners of cs at which the form is what it is at c, with each of the corners es at which it isn't greater
+-- total adds up corners of cs at which the form is what it is at c, with each of the corners es at
+-- which it isn't greater
 pub record IsLeastSum (f : LinearForm) (cs es : List Point) (c total : Point) : Type 0 where
   pub same : value f total *ℤ c.d ≡ value f c *ℤ total.d
   pub is_point : IsPoint total
   pub above : (k : LinearForm) → IsAbove k cs → pos 0 ≤ℤ value k total
-  pub parts : (k : LinearForm) → IsAbove k cs → All (λ e. (value f e *ℤ c.d) ≤ℤ (value f c *ℤ e.d) → value k e ≤ℤ value k total) es
+  pub parts : (k : LinearForm) → IsAbove k cs → All
+      (λ e. (value f e *ℤ c.d) ≤ℤ (value f c *ℤ e.d) → value k e ≤ℤ value k total) es
 
--- how large the values n and m and the denominators d and e are of two corners whose numbers are within 2^38
+-- how large the values n and m and the denominators d and e are of two corners whose numbers are
+-- within 2^38
 pub record AreShort (n d m e : ℤ) : Type 0 where
   pub first_value : IsWithin (2 ^ 79) n
   pub first_denominator : IsWithin (2 ^ 38) d

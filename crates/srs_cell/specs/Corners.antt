@@ -11,13 +11,15 @@ side a b = record { a = a; b = b; c = pos 4 }
 
 -- the box |x| <= 4, |y| <= 4
 abbrev pub box : List LinearForm
-box = side (pos 1) (pos 0) ∷ side (pos 0) (pos 1) ∷ side (negsuc 0) (pos 0) ∷ side (pos 0) (negsuc 0) ∷ []
+box = side (pos 1) (pos 0) ∷ side (pos 0) (pos 1) ∷ side (negsuc 0) (pos 0) ∷ side (pos 0)
+    (negsuc 0) ∷ []
 
 -- the forms of the box and of the halves of R
 abbrev pub boxed : Area → List LinearForm
 boxed R = box ++ map (λ h. h.form) R
 
--- cs are the corners of the halves of R, where open edges count as closed: at least one and at most 4 + length R, within 2^77
+-- cs are the corners of the halves of R, where open edges count as closed: at least one and at most
+-- 4 + length R, within 2^77
 pub record AreCorners (R : Area) (cs : List Point) : Type 0 where
   pub hull : IsHull (boxed R) cs
   pub sized : All (IsPointWithin (2 ^ 77)) cs

@@ -42,7 +42,8 @@ pub record IsKept (g : LinearForm) (cs us : List Point) : Type 0 where
   pub fewer : (length us + length below) ≤ length cs
 
 -- us are the corners of what g leaves of the halves hs, whose corners are cs
-pub record IsPart (hs : List LinearForm) (cs : List Point) (g : LinearForm) (us : List Point) : Type 0 where
+pub record IsPart (hs : List LinearForm) (cs : List Point) (g : LinearForm) (us : List Point) : Type
+    0 where
   pub hull : IsHull (hs ++ g ∷ []) us
   pub sized : All (IsPointWithin (2 ^ 77)) us
   pub some : 1 ≤ length us

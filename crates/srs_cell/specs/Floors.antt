@@ -30,11 +30,12 @@ pub record IsFloorBelow (f : LinearForm) (cs es : List Point) (k : ℤ) : Type 0
   pub taken : (c : Point) × Contains cs c × (value f c <ℤ (k *ℤ c.d +ℤ c.d))
 
 -- such floors of the form and of its opposite, within m
-pub record AreFloorsBelow (m : ℕ) (f : LinearForm) (cs es : List Point) (floors : Floors) : Type 0 where
-  pub ahead : IsFloorBelow f cs es floors.ahead
-  pub back : IsFloorBelow (opposite f) cs es floors.back
-  pub ahead_range : IsWithin m floors.ahead
-  pub back_range : IsWithin m floors.back
+pub record AreFloorsBelow (m : ℕ) (f : LinearForm) (cs es : List Point) (floors : Floors) : Type 0
+  where
+    pub ahead : IsFloorBelow f cs es floors.ahead
+    pub back : IsFloorBelow (opposite f) cs es floors.back
+    pub ahead_range : IsWithin m floors.ahead
+    pub back_range : IsWithin m floors.back
 
 -- n / d is at most m in magnitude
 pub record IsRatioWithin (m : ℕ) (n d : ℤ) : Type 0 where

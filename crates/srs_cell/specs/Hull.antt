@@ -15,7 +15,8 @@ IsAbove f cs = All (λ c. pos 0 ≤ℤ value f c) cs
 abbrev pub IsBelow : LinearForm → List Point → Type 0
 IsBelow f cs = All (λ c. value f c <ℤ pos 0) cs
 
--- the corners are in the halves, and a form that is at least 0 at each corner is at least 0 at each point there
+-- the corners are in the halves, and a form that is at least 0 at each corner is at least 0 at each
+-- point there
 pub record IsHull (hs : List LinearForm) (cs : List Point) : Type 0 where
   pub inside : All (IsInHalves hs) cs
   pub whole : (f : LinearForm) → IsAbove f cs → (z : Point) → IsInHalves hs z → pos 0 ≤ℤ value f z

@@ -5,7 +5,8 @@ use Rattle.srs_plane.specs.Regions.{Area, IsIn, Divides, ge_side, lt_side}
 use Rattle.srs_cell.specs.declared.divisions.Parts.{Parts}
 use Rattle.srs_cell.specs.declared.divisions.Parts.TheVariants.{Both, AllGe, AllLt}
 
--- h divides R, x is R with the side where it is at least 0, and y is R with the side where it is below 0
+-- h divides R, x is R with the side where it is at least 0, and y is R with the side where it is
+-- below 0
 pub record AreBoth (R : Area) (h : LinearForm) (x y : Area) : Type 0 where
   pub divides : Divides R h
   pub above : x ≡ R ++ ge_side h ∷ []

@@ -114,7 +114,8 @@ fn is_up_to(form: &Form, corner: &Corner, most: i64) -> bool
 fn first_taking(form: &Form, corners: &CornerList, most: i64) -> Option<Corner>
     requires sized { All (IsPointWithin (2 ^ 77)) corners.now }
     requires most { IsWithin (2 ^ 40) most }
-    ensures { MatchOption result (All (λ c. (most *ℤ c.d) <ℤ value form.now c) corners.now) (λ c. Contains corners.now c × (value form.now c ≤ℤ (most *ℤ c.d))) }
+    ensures { MatchOption result (All (λ c. (most *ℤ c.d) <ℤ value form.now c) corners.now)
+        (λ c. Contains corners.now c × (value form.now c ≤ℤ (most *ℤ c.d))) }
 {
     first_of(form, corners.as_slice(), most)
 }
@@ -123,7 +124,8 @@ fn first_taking(form: &Form, corners: &CornerList, most: i64) -> Option<Corner>
 fn first_of(form: &Form, corners: &[Corner], most: i64) -> Option<Corner>
     requires sized { All (IsPointWithin (2 ^ 77)) corners.now }
     requires most { IsWithin (2 ^ 40) most }
-    ensures { MatchOption result (All (λ c. (most *ℤ c.d) <ℤ value form.now c) corners.now) (λ c. Contains corners.now c × (value form.now c ≤ℤ (most *ℤ c.d))) }
+    ensures { MatchOption result (All (λ c. (most *ℤ c.d) <ℤ value form.now c) corners.now)
+        (λ c. Contains corners.now c × (value form.now c ≤ℤ (most *ℤ c.d))) }
 {
     for corner in corners {
         if is_up_to(form, corner, most) {
@@ -161,7 +163,8 @@ fn is_less_short(n: i128, d: i128, m: i128, e: i128) -> bool
 
 // Whether all four numbers are at most 2^62 in magnitude, so that 128 bits hold their products.
 pub(crate) fn are_half(n: i128, d: i128, m: i128, e: i128) -> bool
-    ensures { IsTrue result → IsWithin (2 ^ 62) n × IsWithin (2 ^ 62) d × IsWithin (2 ^ 62) m × IsWithin (2 ^ 62) e }
+    ensures { IsTrue result → IsWithin (2 ^ 62) n × IsWithin (2 ^ 62) d × IsWithin (2 ^ 62) m ×
+        IsWithin (2 ^ 62) e }
 {
     let left = -HALF <= n && n <= HALF && -HALF <= d && d <= HALF;
     left && -HALF <= m && m <= HALF && -HALF <= e && e <= HALF

@@ -39,7 +39,8 @@ impl Cell {
     /// The cell of the region, which may be a segment or a single point. `None` exactly where the region has no point. An
     /// `Err` is want of memory. Both let the region go.
     pub fn of(alloc: Global, region: Region) -> Result<Option<Cell>, NoMemory>
-        ensures { IfOk result (λ found. MatchOption found (HasPoint region → ⊥) (λ cell. cell ≡ region)) }
+        ensures { IfOk result (λ found. MatchOption found (HasPoint region → ⊥)
+            (λ cell. cell ≡ region)) }
     {
         let Some(corners) = corners_of(alloc, &region)? else {
             return Ok(None);

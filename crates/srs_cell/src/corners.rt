@@ -137,8 +137,9 @@ pub(crate) fn copied(alloc: Global, corners: &[Corner]) -> Result<Vec<Corner>, N
 pub(crate) fn corners_of(alloc: Global, region: &Region) -> Result<Option<Vec<Corner>>, NoMemory>
     ensures count { length region.now ≤ MOST_HALVES }
     ensures near { (r : Point) → IsIn region.now r → IsNear r }
-    ensures found { IfOk result
-        (λ found. MatchOption found ((z : Point) → IsInHalves (boxed region.now) z → ⊥) (λ corners. AreCorners region.now corners.items)) }
+    ensures found { IfOk result (λ found. MatchOption found
+        ((z : Point) → IsInHalves (boxed region.now) z → ⊥)
+        (λ corners. AreCorners region.now corners.items)) }
 {
     let count = region.len();
     let mut corners = box_corners(alloc)?;
@@ -168,7 +169,8 @@ pub(crate) fn part_corners(
     requires section { IsSection (boxed region.now) section.now }
     requires tally { IsTally section.now.line corners.now tally }
     requires some { 1 ≤ tally.above + tally.on }
-    ensures { IfOk result (λ part. (h : Half) → h.form ≡ section.now.line → AreCorners (region.now ++ h ∷ []) part.items) }
+    ensures { IfOk result (λ part. (h : Half) → h.form ≡ section.now.line → AreCorners
+        (region.now ++ h ∷ []) part.items) }
 {
     // The clauses alone speak of the halves: the section has their ends.
     let _region = region;

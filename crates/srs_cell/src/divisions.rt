@@ -99,7 +99,8 @@ fn part(
     requires section { IsSection (boxed region.now) section.now }
     requires tally { IsTally half.form corners.now tally }
     requires some { 1 ≤ tally.above + tally.on }
-    ensures part { IfOk result (λ found. MatchOption found (HasPoint (region.now ++ half ∷ []) → ⊥) (λ cell. cell ≡ region.now ++ half ∷ [])) }
+    ensures part { IfOk result (λ found. MatchOption found (HasPoint (region.now ++ half ∷ []) → ⊥)
+        (λ cell. cell ≡ region.now ++ half ∷ [])) }
     ensures point { IfOk result (λ found. IsSome found → HasPoint (region.now ++ half ∷ [])) }
 {
     let part = part_corners(alloc, region, corners, section, tally)?;

@@ -22,7 +22,8 @@ pub(crate) fn side(a: i64, b: i64) -> Form
 
 // The first end of the line within some halves and one more of them, where `end` is the one without it.
 fn nearer(end: Option<Corner>, half: &Form, line: &Form) -> Option<Corner>
-    ensures { (hs : List LinearForm) → IsFirstEnd line.now hs end → IsFirstEnd line.now (hs ++ half.now ∷ []) result }
+    ensures { (hs : List LinearForm) → IsFirstEnd line.now hs end → IsFirstEnd line.now
+        (hs ++ half.now ∷ []) result }
 {
     if turn(half, line) <= 0 {
         return end;
@@ -34,7 +35,8 @@ fn nearer(end: Option<Corner>, half: &Form, line: &Form) -> Option<Corner>
 #[inline(always)]
 fn moved(end: Option<Corner>, half: &Form, line: &Form) -> Option<Corner>
     requires { pos 0 <ℤ (meet half.now line.now).d }
-    ensures { (hs : List LinearForm) → IsFirstEnd line.now hs end → IsFirstEnd line.now (hs ++ half.now ∷ []) result }
+    ensures { (hs : List LinearForm) → IsFirstEnd line.now hs end → IsFirstEnd line.now
+        (hs ++ half.now ∷ []) result }
 {
     if let Some(corner) = end {
         if half.at_corner(&corner) >= 0 {
@@ -109,7 +111,8 @@ impl Section {
     // The line within the box too.
     fn boxed(self) -> Section
         ensures line { result.line ≡ self.line }
-        ensures section { (hs : List LinearForm) → IsSection hs self → IsSection (box ++ hs) result }
+        ensures section { (hs : List LinearForm) → IsSection hs self
+            → IsSection (box ++ hs) result }
     {
         let bottom = self.tightened(&side(0, -1));
         let left = bottom.tightened(&side(-1, 0));
@@ -121,7 +124,8 @@ impl Section {
     #[inline(always)]
     fn tightened(self, half: &Form) -> Section
         ensures line { result.line ≡ self.line }
-        ensures section { (hs : List LinearForm) → IsSection hs self → IsSection (half.now ∷ hs) result }
+        ensures section { (hs : List LinearForm) → IsSection hs self → IsSection (half.now ∷ hs)
+            result }
     {
         let turned = turn(half, &self.line);
         if turned > 0 {

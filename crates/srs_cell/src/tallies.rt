@@ -17,7 +17,8 @@ pub(crate) struct Tally {
 impl Tally {
     // That of the opposite form.
     pub(crate) fn turned(self) -> Tally
-        ensures tally { (g : LinearForm) (cs : List Point) → IsTally g cs self → IsTally (opposite g) cs result }
+        ensures tally { (g : LinearForm) (cs : List Point) → IsTally g cs self → IsTally
+            (opposite g) cs result }
         ensures above { result.above ≡ self.below }
     {
         Tally {

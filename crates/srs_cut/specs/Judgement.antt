@@ -18,7 +18,8 @@ pub record IsFirstBreak (R : Area) (c : List ℤ) (i : ℕ) : Type 0 where
 
 -- h is the first form of the list that divides R, or none does
 abbrev pub IsFirstDivision : Area → List LinearForm → Option LinearForm → Type 0
-IsFirstDivision R forms None = (k : ℕ) (g : LinearForm) → slice_get forms k ≡ Some g → Divides R g → ⊥
+IsFirstDivision R forms None = (k : ℕ) (g : LinearForm) → slice_get forms k ≡ Some g → Divides R g →
+    ⊥
 IsFirstDivision R forms (Some h) = IsFirstDividing R forms h
 
 -- neither f_i nor f_i - 1 divides R
@@ -29,7 +30,8 @@ IsUndivided R c i = (Divides R (lower_form c i) → ⊥) × (Divides R (upper_fo
 abbrev pub IsDivisionAt : Area → List ℤ → ℕ → Option LinearForm → Type 0
 IsDivisionAt R c i None = IsUndivided R c i
 IsDivisionAt R c i (Some h) =
-    ((h ≡ lower_form c i) × Divides R h) ⊎ ((h ≡ upper_form c i) × (Divides R (lower_form c i) → ⊥) × Divides R h)
+    ((h ≡ lower_form c i) × Divides R h) ⊎ ((h ≡ upper_form c i) × (Divides R (lower_form c i) → ⊥)
+    × Divides R h)
 
 -- the cycle covers R, or where it breaks first, and the first form of its cutout that divides R
 abbrev pub IsJudged : Area → List ℤ → Judged → Type 0

@@ -15,7 +15,8 @@ pub record AreTheCore (R : Area) (ws : List V2) : Type 0 where
 -- the pairs at the first k places that have no mark, in their order
 pub record AreOpenPairs (ps : List V2) (ms : List (Option ℕ)) (k : ℕ) (ws : List V2) : Type 0 where
   pub ascending : AllPairs Precedes ps → AllPairs Precedes ws
-  pub each : (w : V2) → Contains ws w → (i : ℕ) × (i < k) × (pair_at ps i ≡ w) × (mark_at ms i ≡ None)
+  pub each : (w : V2) → Contains ws w → (i : ℕ) × (i < k) × (pair_at ps i ≡ w) ×
+      (mark_at ms i ≡ None)
   pub all : (i : ℕ) → i < k → mark_at ms i ≡ None → Contains ws (pair_at ps i)
 
 -- a place has no mark
@@ -25,4 +26,5 @@ HasOpenPlace ms = (i : ℕ) × (i < length ms) × (mark_at ms i ≡ None)
 -- the marks at the first k places, as numbers
 pub record AreNumbers (ms : List (Option ℕ)) (k : ℕ) (zs : List ℤ) : Type 0 where
   pub len : length zs ≡ k
-  pub each : (i : ℕ) → i < k → (n : ℕ) × (mark_at ms i ≡ Some n) × (slice_index_or zs i (pos 0) ≡ pos n)
+  pub each : (i : ℕ) → i < k → (n : ℕ) × (mark_at ms i ≡ Some n) ×
+      (slice_index_or zs i (pos 0) ≡ pos n)

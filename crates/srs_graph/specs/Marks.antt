@@ -13,11 +13,14 @@ pub record HasNoMarks (n : ℕ) (ms : List (Option ℕ)) : Type 0 where
   pub len : length ms ≡ n
   pub none : (i : ℕ) → mark_at ms i ≡ None
 
--- n is 0 at (0, 0); elsewhere all of the row is marked, and n is one more than the greatest of these marks
+-- n is 0 at (0, 0); elsewhere all of the row is marked, and n is one more than the greatest of
+-- these marks
 pub record Ranked (ps : List V2) (rows : List Row) (ms : List (Option ℕ)) (i n : ℕ) : Type 0 where
   pub at_zero : pair_at ps i ≡ origin → n ≡ 0
-  pub falls : pair_at ps i ≢ origin → (j : ℕ) → IsInRow (row_at rows i) j → (m : ℕ) × (mark_at ms j ≡ Some m) × (m < n)
-  pub step : pair_at ps i ≢ origin → (j : ℕ) × (m : ℕ) × IsInRow (row_at rows i) j × (mark_at ms j ≡ Some m) × (n ≡ m + 1)
+  pub falls : pair_at ps i ≢ origin → (j : ℕ) → IsInRow (row_at rows i) j → (m : ℕ) ×
+      (mark_at ms j ≡ Some m) × (m < n)
+  pub step : pair_at ps i ≢ origin → (j : ℕ) × (m : ℕ) × IsInRow (row_at rows i) j ×
+      (mark_at ms j ≡ Some m) × (n ≡ m + 1)
 
 -- a place of the row has no mark
 pub record LeadsOn (rows : List Row) (ms : List (Option ℕ)) (i : ℕ) : Type 0 where

@@ -33,7 +33,8 @@ pub record Network : Type 0 where
 abbrev pub network : List V2 → List Row → Network
 network ps rows = record { pairs = ps; rows = rows }
 
--- one narrow pair at least and not more than the witnesses of a cell may be, strictly ascending, and as many rows
+-- one narrow pair at least and not more than the witnesses of a cell may be, strictly ascending,
+-- and as many rows
 pub record IsNetwork (g : Network) : Type 0 where
   pub rows : AreRows (length g.pairs) g.rows
   pub some : 1 ≤ length g.pairs
@@ -44,8 +45,10 @@ pub record IsNetwork (g : Network) : Type 0 where
 -- the pairs are the witnesses of R, and the rows are its edges among them
 pub record IsGraph (R : Area) (g : Network) : Type 0 where
   pub witnesses : AreAllWitnesses R g.pairs
-  pub each : (i j : ℕ) → i < length g.pairs → IsInRow (row_at g.rows i) j → HasEdge R (pair_at g.pairs i) (pair_at g.pairs j)
-  pub all : (i : ℕ) (v : V2) → i < length g.pairs → HasEdge R (pair_at g.pairs i) v → (j : ℕ) × IsInRow (row_at g.rows i) j × (pair_at g.pairs j ≡ v)
+  pub each : (i j : ℕ) → i < length g.pairs → IsInRow (row_at g.rows i) j → HasEdge R
+      (pair_at g.pairs i) (pair_at g.pairs j)
+  pub all : (i : ℕ) (v : V2) → i < length g.pairs → HasEdge R (pair_at g.pairs i) v → (j : ℕ) ×
+      IsInRow (row_at g.rows i) j × (pair_at g.pairs j ≡ v)
 
 -- the row holds exactly the places of the pairs that w has an edge to
 pub record IsRowOf (R : Area) (ps : List V2) (w : V2) (r : Row) : Type 0 where

@@ -23,14 +23,16 @@ LeadOn rows ms = (i : ℕ) → i < length ms → mark_at ms i ≡ None → Leads
 
 -- j is the first successor of i with no mark
 abbrev pub IsStep : List Row → List (Option ℕ) → ℕ → ℕ → Type 0
-IsStep rows ms i j = IsFirstOpen ms (row_at rows i).start ((row_at rows i).start + (row_at rows i).len) j
+IsStep rows ms i j = IsFirstOpen ms (row_at rows i).start
+    ((row_at rows i).start + (row_at rows i).len) j
 
 -- the k-th place of the walk: the path, and then the place it is at
 abbrev pub step_at : List ℕ → ℕ → ℕ → ℕ
 step_at path at k = slice_index_or (path ++ at ∷ []) k 0
 
 -- the walk so far, with the place at which each place was met
-pub record Walk (rows : List Row) (ms : List (Option ℕ)) (path : List ℕ) (at : ℕ) (met : List (Option ℕ)) : Type 0 where
+pub record Walk (rows : List Row) (ms : List (Option ℕ)) (path : List ℕ) (at : ℕ)
+    (met : List (Option ℕ)) : Type 0 where
   pub len : length met ≡ length ms
   pub start : IsFirstOpen ms 0 (length ms) (step_at path at 0)
   pub go : (k : ℕ) → k < length path → IsStep rows ms (step_at path at k) (step_at path at (k + 1))
@@ -41,12 +43,14 @@ pub record Walk (rows : List Row) (ms : List (Option ℕ)) (path : List ℕ) (at
   pub short : length path + unmarked met ≡ length met
 
 -- the walk came back to the place that it met at `from`
-pub record IsRound (rows : List Row) (ms : List (Option ℕ)) (path : List ℕ) (from : ℕ) : Type 0 where
-  pub at : ℕ
-  pub met : List (Option ℕ)
-  pub walk : Walk rows ms path at met
-  pub back : mark_at met at ≡ Some from
+pub record IsRound (rows : List Row) (ms : List (Option ℕ)) (path : List ℕ) (from : ℕ) : Type 0
+  where
+    pub at : ℕ
+    pub met : List (Option ℕ)
+    pub walk : Walk rows ms path at met
+    pub back : mark_at met at ≡ Some from
 
 -- the first entries of the pairs at n places of the path, from a place on
 abbrev pub first_entries : List V2 → List ℕ → ℕ → ℕ → List ℤ
-first_entries ps path from n = map (λ k. (pair_at ps (slice_index_or path k 0)).a) (range_with_len from n)
+first_entries ps path from n = map (λ k. (pair_at ps (slice_index_or path k 0)).a)
+    (range_with_len from n)

@@ -90,14 +90,17 @@ impl Descent {
         place: usize,
     ) -> Result<(), NoMemory>
         requires rows { AreRows (length pairs.now) rows.now }
-        requires descent { IsDescent pairs.now rows.now marks.old self.old.entered.items self.old.path.items }
+        requires descent { IsDescent pairs.now rows.now marks.old self.old.entered.items
+            self.old.path.items }
         requires here { place < length pairs.now }
         requires fresh { is_entered self.old.entered.items place ≡ false }
         requires top { TopWaitsFor rows.now self.old.path.items place }
-        ensures descent { OnOk result (IsDescent pairs.now rows.now marks.new self.new.entered.items self.new.path.items) }
+        ensures descent { OnOk result (IsDescent pairs.now rows.now marks.new self.new.entered.items
+            self.new.path.items) }
         ensures here { OnOk result (is_entered self.new.entered.items place ≡ true) }
         ensures stay { OnOk result (StayEntered self.old.entered.items self.new.entered.items) }
-        ensures less { OnOk result (left_over self.new.entered.items self.new.path.items < left_over self.old.entered.items self.old.path.items) }
+        ensures less { OnOk result (left_over self.new.entered.items self.new.path.items < left_over
+            self.old.entered.items self.old.path.items) }
     {
         self.entered[place] = true;
         if is_origin(pairs[place]) {
@@ -123,10 +126,13 @@ impl Descent {
     ) -> Result<(), NoMemory>
         requires rows { AreRows (length pairs.now) rows.now }
         requires few { length pairs.now ≤ MOST_WITNESSES }
-        requires descent { IsDescent pairs.now rows.now marks.old self.old.entered.items (self.old.path.items ++ top ∷ []) }
-        ensures descent { OnOk result (IsDescent pairs.now rows.now marks.new self.new.entered.items self.new.path.items) }
+        requires descent { IsDescent pairs.now rows.now marks.old self.old.entered.items
+            (self.old.path.items ++ top ∷ []) }
+        ensures descent { OnOk result (IsDescent pairs.now rows.now marks.new self.new.entered.items
+            self.new.path.items) }
         ensures stay { OnOk result (StayEntered self.old.entered.items self.new.entered.items) }
-        ensures less { OnOk result (left_over self.new.entered.items self.new.path.items < left_over self.old.entered.items (self.old.path.items ++ top ∷ [])) }
+        ensures less { OnOk result (left_over self.new.entered.items self.new.path.items < left_over
+            self.old.entered.items (self.old.path.items ++ top ∷ [])) }
     {
         let row = rows[top.place];
         let visit = read_on(row, marks, top);
@@ -155,11 +161,13 @@ impl Descent {
     ) -> Result<(), NoMemory>
         requires rows { AreRows (length pairs.now) rows.now }
         requires few { length pairs.now ≤ MOST_WITNESSES }
-        requires descent { IsDescent pairs.now rows.now marks.old self.old.entered.items self.old.path.items }
+        requires descent { IsDescent pairs.now rows.now marks.old self.old.entered.items
+            self.old.path.items }
         requires path { self.old.path.items ≡ [] }
         requires here { start < length pairs.now }
         requires fresh { is_entered self.old.entered.items start ≡ false }
-        ensures descent { OnOk result (IsDescent pairs.now rows.now marks.new self.new.entered.items self.new.path.items) }
+        ensures descent { OnOk result (IsDescent pairs.now rows.now marks.new self.new.entered.items
+            self.new.path.items) }
         ensures path { OnOk result (self.new.path.items ≡ []) }
         ensures here { OnOk result (is_entered self.new.entered.items start ≡ true) }
         ensures stay { OnOk result (StayEntered self.old.entered.items self.new.entered.items) }

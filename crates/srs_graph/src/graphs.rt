@@ -59,14 +59,16 @@ impl Graph {
 
     /// All witnesses with their ranks. `None` exactly where the core isn't empty.
     pub fn ranks(&self, alloc: Global) -> Result<Option<Ranks>, NoMemory>
-        ensures { (R : Area) → IsGraph R self.now → IfOk result (λ found. MatchOption found (HasCore R) (λ ranks. HasNoCore R × AreRanks R ranks)) }
+        ensures { (R : Area) → IsGraph R self.now → IfOk result
+            (λ found. MatchOption found (HasCore R) (λ ranks. HasNoCore R × AreRanks R ranks)) }
     {
         ranks_of(alloc, &self.pairs, &self.rows)
     }
 
     /// The chosen cycle. `None` exactly where the core is empty.
     pub fn cycle(&self, alloc: Global) -> Result<Option<Cycle>, NoMemory>
-        ensures { (R : Area) → IsGraph R self.now → IfOk result (λ found. MatchOption found (HasNoCore R) (λ cycle. HasCore R × IsChosen R cycle)) }
+        ensures { (R : Area) → IsGraph R self.now → IfOk result
+            (λ found. MatchOption found (HasNoCore R) (λ cycle. HasCore R × IsChosen R cycle)) }
     {
         cycle_of(alloc, &self.pairs, &self.rows)
     }
@@ -84,7 +86,8 @@ fn core_of(alloc: Global, pairs: &[V2], rows: &[Row]) -> Result<Pairs, NoMemory>
 // The ranks of a graph with no core.
 fn ranks_of(alloc: Global, pairs: &[V2], rows: &[Row]) -> Result<Option<Ranks>, NoMemory>
     requires { IsNetwork (network pairs.now rows.now) }
-    ensures { (R : Area) → IsGraph R (network pairs.now rows.now) → IfOk result (λ found. MatchOption found (HasCore R) (λ ranks. HasNoCore R × AreRanks R ranks)) }
+    ensures { (R : Area) → IsGraph R (network pairs.now rows.now) → IfOk result
+        (λ found. MatchOption found (HasCore R) (λ ranks. HasNoCore R × AreRanks R ranks)) }
 {
     let marks = peel(alloc, pairs, rows)?;
     match numbers(alloc, &marks)? {
@@ -96,7 +99,8 @@ fn ranks_of(alloc: Global, pairs: &[V2], rows: &[Row]) -> Result<Option<Ranks>, 
 // The chosen cycle of a graph with a core.
 fn cycle_of(alloc: Global, pairs: &[V2], rows: &[Row]) -> Result<Option<Cycle>, NoMemory>
     requires { IsNetwork (network pairs.now rows.now) }
-    ensures { (R : Area) → IsGraph R (network pairs.now rows.now) → IfOk result (λ found. MatchOption found (HasNoCore R) (λ cycle. HasCore R × IsChosen R cycle)) }
+    ensures { (R : Area) → IsGraph R (network pairs.now rows.now) → IfOk result
+        (λ found. MatchOption found (HasNoCore R) (λ cycle. HasCore R × IsChosen R cycle)) }
 {
     let marks = peel(alloc, pairs, rows)?;
     match first_open(&marks, 0, marks.len()) {

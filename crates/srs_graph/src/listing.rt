@@ -40,7 +40,8 @@ pub(crate) fn open_pairs(
 
 // The marks as numbers, or `None` where a place has no mark.
 pub(crate) fn numbers(alloc: Global, marks: &[Option<u32>]) -> Result<Option<Nums>, NoMemory>
-    ensures { IfOk result (λ found. MatchOption found (HasOpenPlace marks.now) (AreNumbers marks.now (length marks.now))) }
+    ensures { IfOk result (λ found. MatchOption found (HasOpenPlace marks.now)
+        (AreNumbers marks.now (length marks.now))) }
 {
     let mut numbers = Nums::new(alloc);
     for i in 0..marks.len() {

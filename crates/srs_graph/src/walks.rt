@@ -23,7 +23,8 @@ pub(crate) struct Round {
 // The first place from `low` to `high` with no mark.
 pub(crate) fn first_open(marks: &[Option<u32>], low: usize, high: usize) -> Option<usize>
     requires { high ≤ length marks.now }
-    ensures { MatchOption result (AreAllMarked marks.now low high) (IsFirstOpen marks.now low high) }
+    ensures { MatchOption result (AreAllMarked marks.now low high)
+        (IsFirstOpen marks.now low high) }
 {
     for i in low..high {
         if marks[i].is_none() {
@@ -86,7 +87,8 @@ pub(crate) fn entries(
 ) -> Result<Nums, NoMemory>
     requires inside { All (λ i. i < length pairs.now) path.now }
     requires from { from ≤ length path.now }
-    ensures { IfOk result (λ entries. entries ≡ first_entries pairs.now path.now from (length path.now - from)) }
+    ensures { IfOk result (λ entries. entries ≡ first_entries pairs.now path.now from
+        (length path.now - from)) }
 {
     let mut entries = Nums::new(alloc);
     for k in from..path.len() {

@@ -16,7 +16,8 @@ pub record IsMixed (x : Mixed) : Type 0 where
   pub rest_high : x.rest <ℤ x.den
   pub den_range : IsWithin (2 ^ 77) x.den
 
--- low and high are the infimum and the supremum of f over R, and `attained` says whether a point takes the latter
+-- low and high are the infimum and the supremum of f over R, and `attained` says whether a point
+-- takes the latter
 pub record IsExtent (R : Area) (f : LinearForm) (s : Extent) : Type 0 where
   pub low_mixed : IsMixed s.low
   pub high_mixed : IsMixed s.high

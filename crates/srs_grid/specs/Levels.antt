@@ -26,7 +26,8 @@ HasNoLevel R f = (k : ℤ) → Splits R f k → ⊥
 
 -- f is at most t in magnitude over R
 abbrev pub IsSpread : Area → LinearForm → ℕ → Type 0
-IsSpread R f t = (r : Point) → IsIn R r → (neg_ℤ (pos t *ℤ r.d) ≤ℤ value f r) × (value f r ≤ℤ (pos t *ℤ r.d))
+IsSpread R f t = (r : Point) → IsIn R r → (neg_ℤ (pos t *ℤ r.d) ≤ℤ value f r) ×
+    (value f r ≤ℤ (pos t *ℤ r.d))
 
 -- g is twice f at each point
 abbrev pub IsTwice : LinearForm → LinearForm → Type 0

@@ -36,7 +36,8 @@ impl Extent {
     /// the extent of a form that is twice as great.
     pub fn doubled(&self) -> Extent
         requires { IsExtentSized self.now }
-        ensures { (R : Area) (f g : LinearForm) → IsTwice f g → IsExtent R f self.now → IsExtent R g result }
+        ensures { (R : Area) (f g : LinearForm) → IsTwice f g → IsExtent R f self.now → IsExtent R g
+            result }
     {
         Extent {
             low: self.low.doubled(),
@@ -48,7 +49,8 @@ impl Extent {
     /// The least whole number that splits the cell: the least one above the infimum, where it isn't above all values.
     pub fn first_level(&self) -> Option<i64>
         requires { IsExtentSized self.now }
-        ensures { (R : Area) (f : LinearForm) → IsExtent R f self.now → MatchOption result (HasNoLevel R f) (IsFirstLevel R f) }
+        ensures { (R : Area) (f : LinearForm) → IsExtent R f self.now → MatchOption result
+            (HasNoLevel R f) (IsFirstLevel R f) }
     {
         let level = self.low.whole + 1;
         if self.reaches(level) {
@@ -61,7 +63,8 @@ impl Extent {
     // Whether a value is at least the level.
     fn reaches(&self, level: i64) -> bool
         requires { IsExtentSized self.now }
-        ensures { (R : Area) (f : LinearForm) → IsExtent R f self.now → MatchBool result (Reaches R f level) (StaysUnder R f level) }
+        ensures { (R : Area) (f : LinearForm) → IsExtent R f self.now → MatchBool result
+            (Reaches R f level) (StaysUnder R f level) }
     {
         if level == self.high.whole {
             return self.high.rest > 0 || self.attained;

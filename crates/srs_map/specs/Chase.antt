@@ -1,4 +1,5 @@
--- Two runners on one orbit, one of them twice as fast: what each pair shows by itself, and where the two meet.
+-- Two runners on one orbit, one of them twice as fast: what each pair shows by itself, and where
+-- the two meet.
 use Rattle.std.specs.Prelude.{◌≡◌, ◌≢◌, ℕ, ◌+◌, ◌<◌, ◌≤◌}
 use Rattle.srs_num.specs.declared.pairs.V2.{V2}
 use Rattle.srs_num.specs.Points.{Point}

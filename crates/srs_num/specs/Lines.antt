@@ -2,7 +2,8 @@
 use Rattle.std.specs.Prelude.{◌≡◌, ◌⊎◌, ◌^◌, List, [], ◌∷◌, pos, ◌+ℤ◌, ◌-ℤ◌, ◌*ℤ◌}
 use Rattle.srs_num.specs.Points.{Point, LinearForm, value, IsPointWithin}
 
--- where the lines of two forms cross, up to the sign of its three numbers; d is 0 where they are parallel
+-- where the lines of two forms cross, up to the sign of its three numbers; d is 0 where they are
+-- parallel
 unfoldable pub meet : LinearForm → LinearForm → Point
 meet f g = record {
   p = f.b *ℤ g.c -ℤ f.c *ℤ g.b;

@@ -15,8 +15,10 @@ pub record IsLeast (P : V2 → Type 0) (w : V2) : Type 0 where
   pub has : P w
   pub least : (v : V2) → P v → NotAfter w v
 
--- z(0) is the least core pair, and each pair is followed by the least core pair among its successors, up to
--- z(from + period), the first pair that is met twice: it is z(from). The cycle lists the first entries of
+-- z(0) is the least core pair, and each pair is followed by the least core pair among its
+-- successors, up to
+-- z(from + period), the first pair that is met twice: it is z(from). The cycle lists the first
+-- entries of
 -- z(from), .., z(from + period - 1)
 pub record IsChosen (R : Area) (cycle : List ℤ) : Type 0 where
   pub z : ℕ → V2

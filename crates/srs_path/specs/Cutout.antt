@@ -14,7 +14,11 @@ lower_form c i = record { a = entry_at c i; b = entry_at c (i + 1); c = entry_at
 
 -- f_i - 1 is (a_i, a_(i+1), a_(i+2) - 1)
 abbrev pub upper_form : List ℤ → ℕ → LinearForm
-upper_form c i = record { a = entry_at c i; b = entry_at c (i + 1); c = entry_at c (i + 2) -ℤ pos 1 }
+upper_form c i = record {
+  a = entry_at c i;
+  b = entry_at c (i + 1);
+  c = entry_at c (i + 2) -ℤ pos 1;
+}
 
 -- the cycle holds at r from its place i to the next: f_i >= 0 and f_i - 1 < 0
 abbrev pub HoldsAt : List ℤ → Point → ℕ → Type 0
@@ -26,7 +30,8 @@ Covers R c = (r : Point) → IsIn R r → (i : ℕ) → i < length c → HoldsAt
 
 -- a point of R has f_i < 0 or f_i - 1 >= 0
 abbrev pub Breaks : Area → List ℤ → ℕ → Type 0
-Breaks R c i = (r : Point) × IsIn R r × ((value (lower_form c i) r <ℤ pos 0) ⊎ (pos 0 ≤ℤ value (upper_form c i) r))
+Breaks R c i = (r : Point) × IsIn R r × ((value (lower_form c i) r <ℤ pos 0) ⊎
+    (pos 0 ≤ℤ value (upper_form c i) r))
 
 -- f_0, f_0 - 1, f_1, f_1 - 1, ..
 abbrev pub cutout_of : List ℤ → List LinearForm
@@ -37,4 +42,5 @@ pub record IsFirstDividing (R : Area) (forms : List LinearForm) (h : LinearForm)
   pub place : ℕ
   pub is : slice_get forms place ≡ Some h
   pub divides : Divides R h
-  pub none_before : (k : ℕ) (g : LinearForm) → k < place → slice_get forms k ≡ Some g → Divides R g → ⊥
+  pub none_before : (k : ℕ) (g : LinearForm) → k < place → slice_get forms k ≡ Some g → Divides R g
+      → ⊥

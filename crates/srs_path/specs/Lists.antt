@@ -9,7 +9,8 @@ use Rattle.srs_path.specs.declared.limits.TheConstants.{MOST_WITNESSES}
 use Rattle.srs_path.specs.Core.{Precedes}
 use Rattle.srs_path.specs.Cutout.{entry_at}
 
--- one number at least and not more than the witnesses of a cell may be, with entries as those of a pair may be, of which
+-- one number at least and not more than the witnesses of a cell may be, with entries as those of a
+-- pair may be, of which
 -- the first two, counted round, aren't both 0
 pub record IsCycle (c : List ℤ) : Type 0 where
   pub some : 1 ≤ length c

@@ -19,11 +19,14 @@ abbrev pub IsLeftOpen : Area → ℕ → Why → Type 0
 IsLeftOpen R W CycleFails = IsSmall R W × HasCore R
 IsLeftOpen R W WitnessFails = IsSmall R W → ⊥
 
--- inside: each point is finite; outside: at each point the pair (a_0, a_1) recurs with the length of the cycle as its
--- period; cut: the form divides; left open: as above; thin: not small, and no grid line; want of memory: nothing
+-- inside: each point is finite; outside: at each point the pair (a_0, a_1) recurs with the length
+-- of the cycle as its
+-- period; cut: the form divides; left open: as above; thin: not small, and no grid line; want of
+-- memory: nothing
 abbrev pub IsSound : Area → ℕ → Outcome → Type 0
 IsSound R W (Inside entries) = (r : Point) → IsIn R r → IsFinite r
-IsSound R W (Outside c) = (r : Point) → IsIn R r → Recurs r (pair (entry_at c 0) (entry_at c 1)) (length c)
+IsSound R W (Outside c) = (r : Point) → IsIn R r → Recurs r (pair (entry_at c 0) (entry_at c 1))
+    (length c)
 IsSound R W (Cut h) = Divides R h
 IsSound R W (Left (Depth why)) = IsLeftOpen R W why
 IsSound R W (Left (Cells why)) = IsLeftOpen R W why

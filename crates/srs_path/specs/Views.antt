@@ -14,7 +14,8 @@ pub record Budget : Type 0 where
   pub cells : ℕ
   pub wits : ℕ
 
--- one cell and one witness at least, and none of the three, nor the product of the last two, more than it may be
+-- one cell and one witness at least, and none of the three, nor the product of the last two, more
+-- than it may be
 pub record IsBudget (b : Budget) : Type 0 where
   pub depth : b.depth ≤ MOST_DEPTH
   pub some_cell : 1 ≤ b.cells
@@ -23,10 +24,12 @@ pub record IsBudget (b : Budget) : Type 0 where
   pub wits : b.wits ≤ MOST_WITNESSES
   pub product : b.wits * b.cells ≤ MOST_PRODUCT
 
--- which limit is spent: the depth in round D, else the cells where they and two for each that is pending are more than C
+-- which limit is spent: the depth in round D, else the cells where they and two for each that is
+-- pending are more than C
 abbrev pub last_of : Budget → ℕ → ℕ → ℕ → Option Last
 last_of b round cells pending =
-    (if eqb round b.depth then Some Depth else (if ltb b.cells (cells + 2 * pending) then Some Cells else None))
+    (if eqb round b.depth then Some Depth else (if ltb b.cells (cells + 2 * pending) then Some Cells
+    else None))
 
 -- an outcome of a region, for this many witnesses
 pub record Found : Type 0 where

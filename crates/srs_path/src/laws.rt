@@ -8,10 +8,12 @@ ghost use Rattle.srs_path.specs.Soundness.{IsSound};
 
 /// A region has one outcome at most, for a limit that is spent or none, and a bound on its witnesses.
 pub fn once()
-    ensures { (R : Area) (last : Option Last) (W : ℕ) (o p : Outcome) → Refines R last W o → Refines R last W p → o ≡ p }
+    ensures { (R : Area) (last : Option Last) (W : ℕ) (o p : Outcome) → Refines R last W o → Refines
+        R last W p → o ≡ p }
 {}
 
 /// The outcome of a region is sound.
 pub fn sound()
-    ensures { (R : Area) (last : Option Last) (W : ℕ) (o : Outcome) → Refines R last W o → IsSound R W o }
+    ensures { (R : Area) (last : Option Last) (W : ℕ) (o : Outcome) → Refines R last W o → IsSound R
+        W o }
 {}

@@ -39,7 +39,11 @@ impl Model for Limits {
 
     ghost view = { λ l. record { depth = l.depth; cells = l.cells; wits = l.wits } };
 
-    ghost invariant = { λ l. IsBudget (record { depth = l.depth; cells = l.cells; wits = l.wits }) };
+    ghost invariant = { λ l. IsBudget (record {
+      depth = l.depth;
+      cells = l.cells;
+      wits = l.wits;
+    }) };
 
     ghost inverse = { λ v. record { depth = v.depth; cells = v.cells; wits = v.wits } };
 }
@@ -47,10 +51,23 @@ impl Model for Limits {
 impl Limits {
     /// `None` exactly where one of the ranges is broken.
     pub fn new(depth: u32, cells: u32, wits: u32) -> Option<Limits>
-        ensures some { IfSome result (λ l. l ≡ record { depth = depth; cells = cells; wits = wits }) }
-        ensures none { IfNone result (IsBudget (record { depth = depth; cells = cells; wits = wits }) → ⊥) }
+        ensures some { IfSome result (λ l. l ≡ record {
+          depth = depth;
+          cells = cells;
+          wits = wits;
+        }) }
+        ensures none { IfNone result (IsBudget (record {
+          depth = depth;
+          cells = cells;
+          wits = wits;
+        }) → ⊥) }
     {
-        if depth > MOST_DEPTH || cells < 1 || cells > MOST_CELLS || wits < 1 || wits > MOST_WITNESSES {
+        if depth > MOST_DEPTH
+            || cells < 1
+            || cells > MOST_CELLS
+            || wits < 1
+            || wits > MOST_WITNESSES
+        {
             return None;
         }
         if u64::from(wits) * u64::from(cells) > MOST_PRODUCT {

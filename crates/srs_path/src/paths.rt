@@ -81,7 +81,8 @@ impl Path {
 
     /// The path with one side more. `None` exactly where it has `MOST_DEPTH`.
     pub fn child(&self, s: Side) -> Option<Path>
-        ensures child { MatchOption result (length self.now ≡ MOST_DEPTH) (λ p. p ≡ self.now ++ s ∷ []) }
+        ensures child { MatchOption result (length self.now ≡ MOST_DEPTH)
+            (λ p. p ≡ self.now ++ s ∷ []) }
         ensures room { IsSome result → length self.now < MOST_DEPTH }
     {
         if self.len as u32 == MOST_DEPTH {

@@ -85,7 +85,8 @@ impl Ranks {
 // Where the pair stands among ascending ones.
 fn place_of(pairs: &[V2], w: &V2) -> Option<usize>
     requires { AllPairs Precedes pairs.now }
-    ensures { MatchOption result (Contains pairs.now w.now → ⊥) (λ i. slice_get pairs.now i ≡ Some w.now) }
+    ensures { MatchOption result (Contains pairs.now w.now → ⊥)
+        (λ i. slice_get pairs.now i ≡ Some w.now) }
 {
     pairs.binary_search(w).ok()
 }

@@ -78,7 +78,8 @@ pub(crate) fn first(alloc: Global, halves: Vec<Half>) -> Result<Arc<Chain>, NoMe
 
 // The chain with the half appended.
 pub(crate) fn longer(alloc: Global, chain: &Arc<Chain>, h: Half) -> Result<Arc<Chain>, NoMemory>
-    ensures { IfOk result (λ more. halves_of (arc_value more) ≡ halves_of (arc_value chain.now) ++ h ∷ []) }
+    ensures { IfOk result (λ more. halves_of (arc_value more) ≡ halves_of (arc_value chain.now) ++ h
+        ∷ []) }
 {
     let rest = owned(chain)?;
     made(alloc, Chain::More(rest, h))

@@ -38,7 +38,8 @@ impl Model for Region {
 
     ghost view = { λ s. halves_of (arc_value s.chain) };
 
-    ghost invariant = { λ s. IsBounded (halves_of (arc_value s.chain)) × (s.count ≡ length (halves_of (arc_value s.chain))) };
+    ghost invariant = { λ s. IsBounded (halves_of (arc_value s.chain))
+        × (s.count ≡ length (halves_of (arc_value s.chain))) };
 }
 
 impl Region {

@@ -34,15 +34,15 @@ pub upper_narrow : (v u : V2) → IsUpperOf v u → IsNarrow v → IsNarrow u
 upper_narrow v u (h, inl e) n = subst IsNarrow (sym e) n
 upper_narrow v u (h, inr e) n = subst IsNarrow (sym e) (within_opposite v.a (2 ^ 37) n.0, within_opposite v.b (2 ^ 37) n.1)
 
-upper_witness : (R : Area) (v u : V2) → IsUpperOf v u → IsWitness R v → IsWitness R u
+pub upper_witness : (R : Area) (v u : V2) → IsUpperOf v u → IsWitness R v → IsWitness R u
 upper_witness R v u (h, inl e) w = subst (IsWitness R) (sym e) w
 upper_witness R v u (h, inr e) w = subst (IsWitness R) (sym e) (witness_mirrored R w)
 
-upper_held : (ws : List V2) (met : Bool) (v u : V2) → IsUpperOf v u → Contains ws u → IsHeld ws met v
+pub upper_held : (ws : List V2) (met : Bool) (v u : V2) → IsUpperOf v u → Contains ws u → IsHeld ws met v
 upper_held ws met v u (h, inl e) c = inl (subst (Contains ws) e c)
 upper_held ws met v u (h, inr e) c = inr (inl (subst (Contains ws) e c))
 
-absent_pair : (vs : List V2) (v : V2) → list_any (pair_eq v) vs ≡ false → Contains vs v → ⊥
+pub absent_pair : (vs : List V2) (v : V2) → list_any (pair_eq v) vs ≡ false → Contains vs v → ⊥
 absent_pair vs v t c = false≢true (sym t ∙ list_any_at (pair_eq v) vs c.0 v c.1 ((pair-decides v (get_or vs c.0 v)).1 (sym c.2)))
 
 -- an insertion of u, the upper one of v and -v, by what it answered
@@ -172,3 +172,7 @@ was_new r false e f = refl
 pub shown_along : {E : Type 0} (P : List V2 → Type 0) (ws : List V2) (r : Result (List V2) E) → IfOk r (λ ps. ps ≡ ws) → P ws → IfOk r P
 shown_along P ws (Ok ps) e h = subst P (sym e) h
 shown_along P ws (Err x) e h = tt
+
+pub on_ok_then : {X E : Type 0} (r : Result X E) (P Q : Type 0) → (P → Q) → OnOk r P → OnOk r Q
+on_ok_then (Ok x) P Q f p = f p
+on_ok_then (Err e) P Q f p = tt

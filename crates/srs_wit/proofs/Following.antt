@@ -6,17 +6,20 @@ use Rattle.std.proofs.lemmas.Int.{ints}
 use Rattle.std.proofs.lemmas.List.FromFn.{length-map-range_with_len, get_or-map-range_with_len}
 use Rattle.srs_num.specs.declared.pairs.V2.{V2}
 use Rattle.srs_num.proofs.Linear.{linear}
-use Rattle.srs_map.specs.Step.{pair, IsNarrow}
+use Rattle.srs_map.specs.Step.{pair, minus, IsNarrow}
 use Rattle.srs_plane.specs.Regions.{Area}
 use Rattle.srs_path.specs.Witnesses.{IsWitness, link}
 use Rattle.srs_cell.specs.Moves.{LinksTo, AreMoves}
 use Rattle.srs_cell.specs.declared.spans.Span.{Span}
 use Rattle.srs_cell.specs.Spans.{IsCount, pair_from}
-use Rattle.srs_wit.specs.Spans.{ArePairsNarrow, IsWideAmong, place_in, pairs_from}
+use Rattle.srs_wit.specs.Spans.{ArePairsNarrow, IsWideAmong, pairs_from}
 use Rattle.srs_wit.specs.Listing.{AreTooMany, IsTooWide}
-use Rattle.srs_wit.specs.Halves.{IsHeld, count_both}
-use Rattle.srs_wit.specs.Search.{AreFound, IsTooLong, Adds, Extends, IsClosedAt}
-use Rattle.srs_wit.proofs.Adding.{extends_none, extends_more, adds_keep}
+use Rattle.srs_wit.specs.Halves.{IsUpper, IsUpperOf, IsHeld, count_both}
+use Rattle.srs_wit.specs.declared.runs.Run.{Run}
+use Rattle.srs_wit.specs.Runs.{run_pair, IsRunOf, turned, AddsAll}
+use Rattle.srs_wit.specs.Search.{AreFound, IsTooLong, Adds, Added, Extends, IsClosedAt}
+use Rattle.srs_wit.proofs.Adding.{extends_none, extends_more, adds_keep, upper_narrow, upper_witness, upper_held}
+use Rattle.srs_wit.proofs.Running.{from_run, to_run, turned_pair}
 
 -- a link from w leads to a pair that begins with the second entry of w
 first_entry : (R : Area) (w v : V2) → LinksTo R w v → pair w.b v.b ≡ v
@@ -31,42 +34,30 @@ first_entry R w v e = elim e.2 [
 place_of : (low j : ℤ) → low ≤ℤ j → (k : ℕ) × (low +ℤ pos k ≡ j)
 place_of low j h = (unsigned_abs (j -ℤ low), omega (arith, ints))
 
--- k of the n pairs of w have been added, in the order of their places
-pub record Adding (R : Area) (W : ℕ) (old : List V2) (was : Bool) (w : V2) (low : ℤ) (back : Bool) (n k : ℕ) (now : List V2) (met : Bool) (waited waiting : List V2) : Type 0 where
-  pub extends : Extends R old was now met waited waiting
-  pub few : count_both now met ≤ W + 2 * k
-  pub done : (j : ℕ) → j < k → IsHeld now met (pair_from w low (place_in back n j))
+module _ (R : Area) (W : ℕ) (old : List V2) (was : Bool) (w : V2) (low : ℤ) (waited : List V2) where
+  pub added_none : AreFound R W old was → Added R W old was w low 0 old was waited waited
+  added_none f = record { extends = extends_none R old was waited f.half; few = omega (arith, f.few); done = λ j h. absurd (omega arith) }
 
--- each place has its turn
-turn_of : (back : Bool) (n i : ℕ) → i < n → (j : ℕ) × (j < n) × (place_in back n j ≡ i)
-turn_of false n i h = (i, h, refl)
-turn_of true n i h = (n - (i + 1), omega arith, omega arith)
-
-module _ (R : Area) (W : ℕ) (old : List V2) (was : Bool) (w : V2) (low : ℤ) (waited : List V2) (back : Bool) (n : ℕ) where
-  pub adding_none : AreFound R W old was → Adding R W old was w low back n 0 old was waited waited
-  adding_none f = record { extends = extends_none R old was waited f.half; few = omega (arith, f.few); done = λ j h. absurd (omega arith) }
-
-  pub adding_more : (k : ℕ) (now : List V2) (yet : Bool) (new : List V2) (met : Bool) (wait waiting : List V2) (v : V2)
-      → Adding R W old was w low back n k now yet waited wait → IsWitness R v → v ≡ pair_from w low (place_in back n k) → Adds now yet v new met wait waiting
-      → Adding R W old was w low back n (k + 1) new met waited waiting
-  adding_more k now yet new met wait waiting v a h e s = record {
+  pub added_more : (k : ℕ) (now : List V2) (yet : Bool) (new : List V2) (met : Bool) (wait waiting : List V2) (v : V2)
+      → Added R W old was w low k now yet waited wait → IsWitness R v → v ≡ pair_from w low k → Adds now yet v new met wait waiting
+      → Added R W old was w low (k + 1) new met waited waiting
+  added_more k now yet new met wait waiting v a h e s = record {
     extends = extends_more R old was now yet new met waited wait waiting v a.extends h s;
     few = omega (arith, a.few, s.few);
-    done = λ j l. elim (dec_lt j k) as (λ _. IsHeld new met (pair_from w low (place_in back n j))) [
-      | yes b ↦ adds_keep now yet v new met wait waiting s (pair_from w low (place_in back n j)) (a.done j b)
-      | no b ↦ let f : k ≡ j = omega arith in subst (IsHeld new met) (e ∙ ap (λ (x : ℕ). pair_from w low (place_in back n x)) f) s.here
+    done = λ j l. elim (dec_lt j k) as (λ _. IsHeld new met (pair_from w low j)) [
+      | yes b ↦ adds_keep now yet v new met wait waiting s (pair_from w low j) (a.done j b)
+      | no b ↦ let f : k ≡ j = omega arith in subst (IsHeld new met) (e ∙ ap (pair_from w low) f) s.here
     ];
   }
 
-  pub all_added : (high : ℤ) (k : ℕ) (now : List V2) (met : Bool) (waiting : List V2) → AreMoves (LinksTo R) w low high → IsCount low high n → n ≤ k
-      → Adding R W old was w low back n k now met waited waiting → IsClosedAt R now met w
-  all_added high k now met waiting m c h a v e =
+  pub all_added : (high : ℤ) (n : ℕ) (now : List V2) (met : Bool) (waiting : List V2) → AreMoves (LinksTo R) w low high → IsCount low high n
+      → Added R W old was w low n now met waited waiting → IsClosedAt R now met w
+  all_added high n now met waiting m c a v e =
       let f = first_entry R w v e in
       let t = m.all v.b (subst (LinksTo R w) (sym f) e) in
       let p = place_of low v.b t.0 in
-      let q = turn_of back n p.0 (before low high v.b p.0 n p.1 t.1 c.past) in
-      let there : pair_from w low (place_in back n q.0) ≡ v = ap (pair_from w low) q.2 ∙ ap (pair w.b) p.1 ∙ f in
-      subst (IsHeld now met) there (a.done q.0 (omega (arith, q.1, h)))
+      let there : pair_from w low p.0 ≡ v = ap (pair w.b) p.1 ∙ f in
+      subst (IsHeld now met) there (a.done p.0 (before low high v.b p.0 n p.1 t.1 c.past))
     where
       before : (low high j : ℤ) (i n : ℕ) → low +ℤ pos i ≡ j → j ≤ℤ high → high <ℤ (low +ℤ pos n) → i < n
       before low high j i n e a b = omega (arith, ints)
@@ -114,3 +105,67 @@ pub wide_shown : (R : Area) (w : V2) (low high : ℤ) (v : V2) → AreMoves (Lin
 wide_shown R w low high v m h a =
     let e = m.each a.last a.above a.below in
     record { witness = subst (IsWitness R) (sym a.is) (link e.0 e.1 e.2 h); wide = a.wide }
+
+-- a run that has the pairs of w, or those on the other side
+pub record IsRunWith (w : V2) (low : ℤ) (n : ℕ) (f : ℕ → V2) : Type 0 where
+  pub from : (k : ℕ) → k < n → (i : ℕ) × (i < n) × IsUpperOf (pair_from w low i) (f k)
+  pub to : (i : ℕ) → i < n → (k : ℕ) × (k < n) × IsUpperOf (pair_from w low i) (f k)
+
+upper_by : (a b : ℤ) → pos 0 <ℤ a → IsUpper (pair a b)
+upper_by a b h = (omega (arith, ints), λ e. absurd (omega (arith, ints)))
+
+module _ (w : V2) (low high : ℤ) (n : ℕ) (r : Run) (c : IsCount low high n) (is : IsRunOf w low high n r) where
+  pub run_ahead : pos 0 <ℤ w.b → IsRunWith w low n (run_pair r)
+  run_ahead h =
+      let up : (k : ℕ) → IsUpper (run_pair r k) = λ k. upper_by r.a _ (subst (λ (x : ℤ). pos 0 <ℤ x) (sym is.a) h) in
+      record {
+        from = λ k l. let t = from_run w low high n r c is k l in (t.0, t.1, (up k, inl t.2));
+        to = λ i l. let t = to_run w low high n r c is i l in (t.0, t.1, (up t.0, inl t.2));
+      }
+
+  pub run_behind : w.b <ℤ pos 0 → IsRunWith w low n (run_pair (turned r))
+  run_behind h =
+      let up : (k : ℕ) → IsUpper (run_pair (turned r) k) = λ k. upper_by (pos 0 -ℤ r.a) _ (above r.a w.b is.a h) in
+      record {
+        from = λ k l. let t = from_run w low high n r c is k l in (t.0, t.1, (up k, inr (turned_pair r k ∙ ap minus t.2)));
+        to = λ i l. let t = to_run w low high n r c is i l in (t.0, t.1, (up t.0, inr (turned_pair r t.0 ∙ ap minus t.2)));
+      }
+    where
+      above : (a b : ℤ) → a ≡ b → b <ℤ pos 0 → pos 0 <ℤ (pos 0 -ℤ a)
+      above a b e h = omega (arith, ints)
+
+  pub run_narrow : (f : ℕ → V2) → IsRunWith w low n f → ArePairsNarrow w low high → (k : ℕ) → k < n → IsNarrow (f k)
+  run_narrow f runs narrow k l =
+      let t = runs.from k l in upper_narrow (pair_from w low t.0) (f k) t.2 (pair_narrow w low high n narrow c t.0 t.1)
+
+-- what adding such a run makes of those found
+module _ (R : Area) (W : ℕ) (old : List V2) (was : Bool) (w : V2) (low high : ℤ) (n : ℕ) (h : IsWitness R w) (found : AreFound R W old was) (m : AreMoves (LinksTo R) w low high) (c : IsCount low high n) (narrow : ArePairsNarrow w low high) (f : ℕ → V2) (runs : IsRunWith w low n f) where
+  pub run_added : (new waited waiting : List V2) → AddsAll old f n new waited waiting → Added R W old was w low n new was waited waiting
+  run_added new waited waiting a = record {
+    extends = record {
+      more = a.more;
+      is = a.is;
+      waits = a.waits;
+      stays = λ t. t;
+      half = record {
+        upper = λ v y. elim (a.others v y) [
+          | inl x ↦ found.half.upper v x
+          | inr x ↦ subst IsUpper (sym x.2) (runs.from x.0 x.1).2.0
+        ];
+        different = a.different found.half.different;
+        each = λ v y. elim (a.others v y) [
+          | inl x ↦ found.half.each v x
+          | inr x ↦ let t = runs.from x.0 x.1 in
+              subst (IsWitness R) (sym x.2) (upper_witness R (pair_from w low t.0) (f x.0) t.2 (witness_at R w low high n m c h t.0 t.1))
+        ];
+        narrow = λ v y. elim (a.others v y) [
+          | inl x ↦ found.half.narrow v x
+          | inr x ↦ let t = runs.from x.0 x.1 in
+              subst IsNarrow (sym x.2) (upper_narrow (pair_from w low t.0) (f x.0) t.2 (pair_narrow w low high n narrow c t.0 t.1))
+        ];
+        center = found.half.center;
+      };
+    };
+    few = omega (arith, a.few, found.few);
+    done = λ i l. let t = runs.to i l in upper_held new was (pair_from w low i) (f t.0) t.2 (a.here t.0 t.1);
+  }

@@ -6,3 +6,4 @@ pub mod Closing
 pub mod Sorting
 pub mod Marking
 pub mod Indexing
+pub mod Running

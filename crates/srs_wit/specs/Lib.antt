@@ -5,3 +5,4 @@ pub mod Search
 pub mod Halves
 pub mod Marks
 pub mod PairSets
+pub mod Runs

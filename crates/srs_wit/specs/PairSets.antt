@@ -9,7 +9,8 @@ use Rattle.srs_wit.specs.Marks.{is_marked}
 abbrev pub has_pair : List V2 → V2 → Bool
 has_pair vs v = list_any (pair_eq v) vs
 
--- the first entry of v is from 0 on and below the side, and the second one from its opposite on and below it
+-- the first entry of v is from 0 on and below the side, and the second one from its opposite on and
+-- below it
 pub record IsNear (side : ℕ) (v : V2) : Type 0 where
   pub from_a : pos 0 ≤ℤ v.a
   pub below_a : v.a <ℤ pos side

@@ -5,10 +5,6 @@ use Rattle.srs_num.specs.declared.pairs.V2.{V2}
 use Rattle.srs_map.specs.Step.{pair, IsNarrow}
 use Rattle.srs_cell.specs.Spans.{pair_from}
 
--- the place of the kth of n pairs, from the first one on or from the last one back
-abbrev pub place_in : Bool → ℕ → ℕ → ℕ
-place_in back n k = if back then n - (k + 1) else k
-
 -- the first n pairs that begin with the second entry of w, from low on
 abbrev pub pairs_from : V2 → ℤ → ℕ → List V2
 pairs_from w low n = map (pair_from w low) (range_with_len 0 n)

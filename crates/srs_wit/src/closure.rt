@@ -6,13 +6,17 @@ ghost use Rattle.srs_plane.specs.Regions.{Area};
 ghost use Rattle.srs_path.specs.Witnesses.{IsWitness, IsSmall};
 ghost use Rattle.srs_wit.specs.Listing.{AreAllWitnesses, AreTooMany, IsExcess};
 ghost use Rattle.srs_wit.specs.Halves.{AreNarrow, count_both, with_opposites};
-ghost use Rattle.srs_wit.specs.Search.{AreHalf, AreFound, Adds, Extends, IsClosedAt, HasUnits, AreAll, IsStop};
+ghost use Rattle.srs_num.specs.Points.{IsWithin};
+ghost use Rattle.srs_cell.specs.Spans.{IsCount};
+ghost use Rattle.srs_wit.specs.Spans.{ArePairsNarrow};
+ghost use Rattle.srs_wit.specs.Search.{AreHalf, AreFound, Adds, AddsLinks, Extends, IsClosedAt, HasUnits, AreAll, IsStop};
 ghost use Rattle.srs_path.specs.declared.limits.TheConstants.{MOST_WITNESSES};
 
 use crate::halves::{upper, with_opposites};
 use crate::pair_set::PairSet;
+use crate::runs::run_of;
 use crate::sets::{Big, WitErr, WitSet};
-use crate::spans::{first_pairs, is_downward, place, wide_end};
+use crate::spans::{first_pairs, wide_end};
 use srs_cell::{Cell, Span};
 use srs_num::{NoMemory, Pairs, V2};
 use std::alloc::Global;
@@ -117,7 +121,8 @@ impl Search {
     fn within(&self, bound: u32) -> Result<(), Stop>
         requires { count_both self.now.found self.now.origin ≤ 2 ^ 34 }
         ensures few { OnOk result (count_both self.now.found self.now.origin ≤ bound) }
-        ensures stop { (R : Area) → AreHalf R self.now.found self.now.origin → IfErr result (IsStop R bound self.now.found self.now.origin) }
+        ensures stop { (R : Area) → AreHalf R self.now.found self.now.origin → IfErr result
+            (IsStop R bound self.now.found self.now.origin) }
     {
         if self.count() > bound as u64 {
             return Err(Stop::Over);
@@ -151,10 +156,10 @@ impl Search {
     }
 
     // Adds a witness, which stands for the one on the other side too.
-    #[inline(always)]
     fn add(&mut self, v: V2) -> Result<(), NoMemory>
         requires { IsNarrow v }
-        ensures { OnOk result (Adds self.old.found self.old.origin v self.new.found self.new.origin self.old.waiting.items self.new.waiting.items) }
+        ensures { OnOk result (Adds self.old.found self.old.origin v self.new.found self.new.origin
+            self.old.waiting.items self.new.waiting.items) }
     {
         let Some(u) = upper(v) else {
             self.origin = true;
@@ -172,7 +177,8 @@ impl Search {
         requires found { self.old.found ≡ [] }
         requires origin { self.old.origin ≡ false }
         requires waiting { self.old.waiting.items ≡ [] }
-        ensures found { (R : Area) → OnOk result (Extends R [] false self.new.found self.new.origin [] self.new.waiting.items) }
+        ensures found { (R : Area) → OnOk result (Extends R [] false self.new.found self.new.origin
+            [] self.new.waiting.items) }
         ensures few { OnOk result (count_both self.new.found self.new.origin ≤ bound) }
         ensures units { OnOk result (HasUnits self.new.found self.new.origin) }
         ensures stop { (R : Area) → IfErr result (IsStop R bound self.new.found self.new.origin) }
@@ -186,12 +192,51 @@ impl Search {
         self.within(bound)
     }
 
+    // Adds the pairs that begin with (0,0)'s second entry: some of them come before (0,0), and some after it.
+    #[inline(never)]
+    fn add_center_row(&mut self, w: V2, span: Span, n: u64) -> Result<(), NoMemory>
+        requires low { IsWithin (2 ^ 41) span.low }
+        requires count { IsCount span.low span.high n }
+        requires narrow { ArePairsNarrow w span.low span.high }
+        ensures { OnOk result (AddsLinks self.old.found self.old.origin w span.low span.high n
+            self.new.found self.new.origin self.old.waiting.items self.new.waiting.items) }
+    {
+        for k in 0..n {
+            self.add(span.pair(w, k))?;
+        }
+        Ok(())
+    }
+
+    // Adds the pairs of the span of `w`, of which there are `n`. Those that begin with one number other than 0 are all on one
+    // side of (0,0). The one with the greatest second entry in magnitude comes last, so that its links are followed first:
+    // where there are too many witnesses, this way outwards mostly meets them sooner.
+    #[inline(always)]
+    fn add_row(&mut self, w: V2, span: Span, n: u64) -> Result<(), NoMemory>
+        requires first { IsNarrow w }
+        requires low { IsWithin (2 ^ 41) span.low }
+        requires high { IsWithin (2 ^ 41) span.high }
+        requires count { IsCount span.low span.high n }
+        requires narrow { ArePairsNarrow w span.low span.high }
+        ensures { OnOk result (AddsLinks self.old.found self.old.origin w span.low span.high n
+            self.new.found self.new.origin self.old.waiting.items self.new.waiting.items) }
+    {
+        if w.b == 0 {
+            return self.add_center_row(w, span, n);
+        }
+        let run = run_of(w, span, n);
+        if w.b > 0 {
+            return self.found.add_run(run, &mut self.waiting);
+        }
+        self.found.add_run(run.mirrored(), &mut self.waiting)
+    }
+
     // Adds all that a witness links to. A span longer than the bound shows too many witnesses by itself.
     fn add_links(&mut self, cell: &Cell, bound: u32, w: V2) -> Result<(), Stop>
         requires narrow { IsNarrow w }
         requires witness { IsWitness cell.now w }
         requires found { AreFound cell.now bound self.old.found self.old.origin }
-        ensures extends { OnOk result (Extends cell.now self.old.found self.old.origin self.new.found self.new.origin self.old.waiting.items self.new.waiting.items) }
+        ensures extends { OnOk result (Extends cell.now self.old.found self.old.origin
+            self.new.found self.new.origin self.old.waiting.items self.new.waiting.items) }
         ensures few { OnOk result (count_both self.new.found self.new.origin ≤ bound) }
         ensures closed { OnOk result (IsClosedAt cell.now self.new.found self.new.origin w) }
         ensures stop { IfErr result (IsStop cell.now bound self.new.found self.new.origin) }
@@ -204,14 +249,9 @@ impl Search {
         if let Some(v) = wide_end(w, span) {
             return Err(Stop::Wide(v));
         }
-        // The pair with the greatest second entry in magnitude comes last, so that its links are followed first: where there
-        // are too many witnesses, this way outwards mostly meets them sooner.
-        let back = is_downward(span);
-        for k in 0..n {
-            let Ok(()) = self.add(span.pair(w, place(back, n, k))) else {
-                return Err(Stop::NoMemory);
-            };
-        }
+        let Ok(()) = self.add_row(w, span, n) else {
+            return Err(Stop::NoMemory);
+        };
         self.within(bound)
     }
 
@@ -233,7 +273,8 @@ impl Search {
     // All the witnesses, ascending: the half is sorted, and the other half is its mirror image.
     fn ascending(&self, alloc: Global) -> Result<Vec<V2>, NoMemory>
         requires { AreNarrow self.now.found }
-        ensures { (R : Area) (W : ℕ) → AreAll R W self.now.found self.now.origin → IfOk result (λ all. AreAllWitnesses R all.items) }
+        ensures { (R : Area) (W : ℕ) → AreAll R W self.now.found self.now.origin → IfOk result
+            (λ all. AreAllWitnesses R all.items) }
     {
         let mut half = Vec::from_slice(alloc, self.found.as_slice())?;
         half.sort_unstable();
@@ -286,7 +327,8 @@ impl Searcher {
         requires some { 1 ≤ w }
         requires few { w ≤ MOST_WITNESSES }
         ensures list { IfOk result (λ found. IfSome found (AreAllWitnesses cell.now)) }
-        ensures small { IfOk result (λ found. MatchOption found (IsSmall cell.now w → ⊥) (λ _. IsSmall cell.now w)) }
+        ensures small { IfOk result (λ found. MatchOption found (IsSmall cell.now w → ⊥)
+            (λ _. IsSmall cell.now w)) }
     {
         self.search.clear();
         if let Err(stop) = self.search.find_all(cell, w) {
@@ -303,7 +345,8 @@ pub fn small_witnesses(alloc: Global, cell: &Cell, w: u32) -> Result<Option<WitS
     requires some { 1 ≤ w }
     requires few { w ≤ MOST_WITNESSES }
     ensures list { IfOk result (λ found. IfSome found (AreAllWitnesses cell.now)) }
-    ensures small { IfOk result (λ found. MatchOption found (IsSmall cell.now w → ⊥) (λ _. IsSmall cell.now w)) }
+    ensures small { IfOk result (λ found. MatchOption found (IsSmall cell.now w → ⊥)
+        (λ _. IsSmall cell.now w)) }
 {
     let mut searcher = Searcher::new(alloc, w)?;
     searcher.small_witnesses(alloc, cell, w)
@@ -311,7 +354,8 @@ pub fn small_witnesses(alloc: Global, cell: &Cell, w: u32) -> Result<Option<WitS
 
 // That the search stopped shows that the cell isn't small, but for want of memory.
 fn shows_large(stop: &Stop) -> Result<(), NoMemory>
-    ensures { (R : Area) (W : ℕ) (ws : List V2) (met : Bool) → IsStop R W ws met stop.now → OnOk result (IsSmall R W → ⊥) }
+    ensures { (R : Area) (W : ℕ) (ws : List V2) (met : Bool) → IsStop R W ws met stop.now → OnOk
+        result (IsSmall R W → ⊥) }
 {
     match stop {
         Stop::Over => Ok(()),

@@ -7,6 +7,7 @@ mod halves;
 pub mod laws;
 mod marks;
 mod pair_set;
+mod runs;
 mod sets;
 mod spans;
 

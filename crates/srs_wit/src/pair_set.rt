@@ -1,11 +1,14 @@
 // A set of pairs that is looked up fast where their entries are small.
-ghost use Rattle.std.specs.Prelude.{◌≡◌, ◌≤◌, ◌<◌, ◌*◌, ◌^◌, ◌++◌, [], ◌∷◌, not, length, if◌then◌else◌, MatchOption, IfOk, OnErr};
+ghost use Rattle.std.specs.Prelude.{◌≡◌, ◌≤◌, ◌<◌, ◌*◌, ◌^◌, ◌++◌, [], ◌∷◌, not, length, if◌then◌else◌, ℕ, MatchOption, IfOk, OnOk, OnErr};
 ghost use Rattle.indexmap.specs.IndexSet.{insert_key};
 ghost use Rattle.srs_map.specs.Step.{IsNarrow};
 ghost use Rattle.srs_path.proofs.WitnessLemmas.{pair_eq};
-ghost use Rattle.srs_wit.specs.PairSets.{has_pair, IsNear, IsNumber};
+ghost use Rattle.srs_num.specs.Points.{IsWithin};
+ghost use Rattle.srs_wit.specs.PairSets.{has_pair, IsNear, IsNumber, AreIndexed};
+ghost use Rattle.srs_wit.specs.Runs.{run_pair, AddsAll};
 
 use crate::marks::MarkTable;
+use crate::runs::Run;
 use indexmap::IndexSet;
 use srs_num::{NoMemory, V2};
 use std::alloc::Global;
@@ -55,7 +58,8 @@ fn number(side: usize, v: V2) -> Option<usize>
 fn insert_far(items: &mut Vec<V2>, far: &mut IndexSet<V2>, v: V2) -> Result<bool, NoMemory>
     ensures added { IfOk result (λ added. added ≡ not (has_pair far.old.keys v)) }
     ensures far { IfOk result (λ added. far.new.keys ≡ insert_key pair_eq far.old.keys v) }
-    ensures items { IfOk result (λ added. items.new.items ≡ (if added then items.old.items ++ v ∷ [] else items.old.items)) }
+    ensures items { IfOk result (λ added. items.new.items ≡
+        (if added then items.old.items ++ v ∷ [] else items.old.items)) }
     ensures err_far { OnErr result (far.new.keys ≡ far.old.keys) }
     ensures err_items { OnErr result (items.new.items ≡ items.old.items) }
 {
@@ -71,6 +75,60 @@ fn insert_far(items: &mut Vec<V2>, far: &mut IndexSet<V2>, v: V2) -> Result<bool
             Err(NoMemory)
         }
     }
+}
+
+// Adds the pair, and says whether it is new.
+#[inline(always)]
+fn insert(
+    items: &mut Vec<V2>,
+    near: &mut MarkTable,
+    far: &mut IndexSet<V2>,
+    side: usize,
+    v: V2,
+) -> Result<bool, NoMemory>
+    requires indexed { AreIndexed side items.old.items near.old.words.items far.old.keys }
+    requires narrow { IsNarrow v }
+    ensures indexed { AreIndexed side items.new.items near.new.words.items far.new.keys }
+    ensures added { IfOk result (λ added. added ≡ not (has_pair items.old.items v)) }
+    ensures pairs { IfOk result (λ added. items.new.items ≡ insert_key pair_eq items.old.items v) }
+{
+    let Some(k) = number(side, v) else {
+        return insert_far(items, far, v);
+    };
+    if near.has(k) {
+        return Ok(false);
+    }
+    items.push(v)?;
+    near.mark(k);
+    Ok(true)
+}
+
+// Adds the pairs of the run. Those that are new wait too.
+#[inline(always)]
+fn add_run(
+    items: &mut Vec<V2>,
+    near: &mut MarkTable,
+    far: &mut IndexSet<V2>,
+    side: usize,
+    run: Run,
+    waiting: &mut Vec<V2>,
+) -> Result<(), NoMemory>
+    requires indexed { AreIndexed side items.old.items near.old.words.items far.old.keys }
+    requires first { IsWithin (2 ^ 41) run.first }
+    requires few { run.count ≤ 2 ^ 43 }
+    requires narrow { (k : ℕ) → k < run.count → IsNarrow (run_pair run k) }
+    ensures indexed { AreIndexed side items.new.items near.new.words.items far.new.keys }
+    ensures added { OnOk result (AddsAll items.old.items (run_pair run) run.count items.new.items
+        waiting.old.items waiting.new.items) }
+{
+    let step = run.step();
+    for k in 0..run.count {
+        let v = run.pair(step, k);
+        if insert(items, near, far, side, v)? {
+            waiting.push(v)?;
+        }
+    }
+    Ok(())
 }
 
 // Takes all of them out. It costs nothing where there are none, whatever the room is.
@@ -121,21 +179,45 @@ impl PairSet {
         &self.items
     }
 
-    // Adds the pair, and says whether it is new.
+    // Adds the pairs of the run. Those that are new wait too.
     #[inline(always)]
+    pub(crate) fn add_run(&mut self, run: Run, waiting: &mut Vec<V2>) -> Result<(), NoMemory>
+        requires first { IsWithin (2 ^ 41) run.first }
+        requires few { run.count ≤ 2 ^ 43 }
+        requires narrow { (k : ℕ) → k < run.count → IsNarrow (run_pair run k) }
+        ensures { OnOk result (AddsAll self.old (run_pair run) run.count self.new waiting.old.items
+            waiting.new.items) }
+    {
+        let side = self.side;
+        // Two loops, each of which goes one way.
+        if run.back {
+            add_run(
+                &mut self.items,
+                &mut self.near,
+                &mut self.far,
+                side,
+                run,
+                waiting,
+            )
+        } else {
+            add_run(
+                &mut self.items,
+                &mut self.near,
+                &mut self.far,
+                side,
+                run,
+                waiting,
+            )
+        }
+    }
+
+    // Adds the pair, and says whether it is new.
     pub(crate) fn insert(&mut self, v: V2) -> Result<bool, NoMemory>
         requires { IsNarrow v }
         ensures added { IfOk result (λ added. added ≡ not (has_pair self.old v)) }
         ensures pairs { IfOk result (λ added. self.new ≡ insert_key pair_eq self.old v) }
     {
-        let Some(k) = number(self.side, v) else {
-            return insert_far(&mut self.items, &mut self.far, v);
-        };
-        if self.near.has(k) {
-            return Ok(false);
-        }
-        self.items.push(v)?;
-        self.near.mark(k);
-        Ok(true)
+        let side = self.side;
+        insert(&mut self.items, &mut self.near, &mut self.far, side, v)
     }
 }

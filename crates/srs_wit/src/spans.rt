@@ -2,7 +2,7 @@
 ghost use Rattle.std.specs.Prelude.{◌≡◌, ◌≤◌, ◌<◌, ◌^◌, ◌↔◌, pos, ◌+ℤ◌, ◌<ℤ◌, IsTrue, IfOk, MatchOption};
 ghost use Rattle.srs_num.specs.Points.{IsWithin};
 ghost use Rattle.srs_map.specs.Step.{IsNarrow};
-ghost use Rattle.srs_wit.specs.Spans.{place_in, pairs_from, ArePairsNarrow, IsWideAmong};
+ghost use Rattle.srs_wit.specs.Spans.{pairs_from, ArePairsNarrow, IsWideAmong};
 
 use srs_cell::Span;
 use srs_map::MOST_ENTRY;
@@ -18,19 +18,11 @@ pub(crate) fn is_downward(span: Span) -> bool
     span.low + span.high < 0
 }
 
-// The place of the `k`th of `n` pairs, from the first one on or, where `back` says so, from the last one back.
-pub(crate) fn place(back: bool, n: u64, k: u64) -> u64
-    requires { k < n }
-    ensures place { result ≡ place_in back n k }
-    ensures within { result < n }
-{
-    if back { n - 1 - k } else { k }
-}
-
 // A pair of the span of `w` with an entry past 2^37, if there is one: then one of the two ends is such a pair.
 pub(crate) fn wide_end(w: V2, span: Span) -> Option<V2>
     requires { IsNarrow w }
-    ensures { MatchOption result (ArePairsNarrow w span.low span.high) (IsWideAmong w span.low span.high) }
+    ensures { MatchOption result (ArePairsNarrow w span.low span.high)
+        (IsWideAmong w span.low span.high) }
 {
     if span.low > span.high {
         return None;
