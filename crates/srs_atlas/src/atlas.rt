@@ -11,7 +11,7 @@ ghost use Rattle.srs_atlas.specs.Counting.{AreCounts};
 ghost use Rattle.srs_atlas.specs.Commits.{FitsPlan, Answers};
 
 use crate::book::Book;
-use crate::commits::Commit;
+use crate::commits::{Commit, prepared};
 use crate::counts::Counts;
 use crate::operations::{Count, Enter, List, Share};
 use srs_cell::Cell;
@@ -138,7 +138,7 @@ impl Atlas {
             Enter {
                 alloc,
                 path,
-                finding: f,
+                finding: prepared(alloc, f),
             },
         )
     }
