@@ -4,6 +4,7 @@ use Rattle.std.specs.Prelude.{Contains, IsSome}
 use Rattle.std.specs.List.{AllPairs, filter, remove}
 use Rattle.std.proofs.lemmas.List.{map-append, length-map}
 use Rattle.std.specs.FinMap as finite
+use Rattle.std.specs.declared.option.Option.{Option}
 use Rattle.std.specs.declared.option.Option.TheVariants.{Some}
 use Rattle.srs_plane.specs.Regions.{Area}
 use Rattle.srs_path.specs.declared.paths.Side.{Side}
@@ -19,7 +20,7 @@ use Rattle.srs_tree.specs.Legality.{MayFollow, IsLegal}
 use Rattle.srs_tree.specs.Rounds.{parts_by, MayComeNext, IsPlanned}
 use Rattle.srs_tree.specs.Snapshots.{Snapshot, tree_of, with_entry, StandsFor}
 use Rattle.srs_tree.specs.Growth.{IsOpenIn, IsShortCut, MayEnter, IsLongestCell, IsTreeErr}
-use Rattle.srs_tree.specs.Queue.{WaitingCell, queue_of, cell_in}
+use Rattle.srs_tree.specs.Queue.{WaitingCell, Growing, queue_of, cell_in, without}
 use Rattle.srs_tree.proofs.HistoryLemmas.{path_eq_same, same_path, outcome_at_stays, IsLegal-append, IsLegal-empty}
 use Rattle.srs_tree.proofs.TreeLemmas.{region_at_stays}
 use Rattle.srs_tree.proofs.PlannedWhole.{Closed, some_is, cell_back, plan_stays}
@@ -30,9 +31,8 @@ use Rattle.std.specs.Arc.{arc_value}
 use Rattle.srs_atlas.specs.declared.book.Terms.{Terms}
 use Rattle.srs_atlas.specs.declared.commits.Commit.{Commit}
 use Rattle.srs_atlas.specs.declared.commits.Commit.TheVariants.{Done as IsDone}
-use Rattle.srs_atlas.specs.Books.{AreTerms, IsLawful, cell_at, waiting_in, IsBook}
+use Rattle.srs_atlas.specs.Books.{AreTerms, IsLawful, cell_at, waiting_in, terms_of, IsBook}
 use Rattle.srs_atlas.specs.Commits.{event_at, FitsPlan, IsReady, IsWelcome, Answers, Commits, commit_of}
-use Rattle.srs_atlas.specs.Waiting.{IsPlaceAt, HasNoCell}
 
 -- what a snapshot says of the cells of its history
 module _ (Root : Area) (H : History) (v : Snapshot) (stands : StandsFor Root H v) where
@@ -62,39 +62,19 @@ comes_next Root L G K path o legal fits = record {
   by_plan = plan_stays Root L G K (event_at path o) legal fits.next.rows_done fits.cell fits.next.by_plan;
 }
 
-all_kept : (test : List Side → Bool) (xs : List (List Side)) → ((x : List Side) → Contains xs x → test x ≡ true) → filter test xs ≡ xs
-all_kept test [] h = refl
-all_kept test (x ∷ xs) h =
-    let rest : filter test xs ≡ xs = all_kept test xs (λ y c. h y (let l = c.1 in (suc c.0, omega arith, c.2))) in
-    ap (λ (b : Bool). cond b (x ∷ filter test xs) (filter test xs)) (h x (0, omega arith, refl)) ∙ ap (λ (ys : List (List Side)). x ∷ ys) rest
-
-differs : (p q : List Side) → (p ≡ q → ⊥) → (b : Bool) → path_eq p q ≡ b → b ≡ false
-differs p q n true t = absurd (n (same_path p q t))
-differs p q n false t = refl
-
 abbrev other : List Side → List Side → Bool
 other path p = not (path_eq path p)
 
 module _ (R : Area) (T : Tree) where
-  at_place : (q : List (List Side)) (k : ℕ) (d : List Side) → k < length q → slice_get (map (cell_at R T) q) k ≡ Some (cell_at R T (get_or q k d))
-  at_place [] k d l = absurd (omega (arith, l))
-  at_place (p ∷ q) zero d l = refl
-  at_place (p ∷ q) (suc k) d l = at_place q k d (omega (arith, l))
-
-  -- the cell at the path's place goes
-  removed : (path : List Side) (q : List (List Side)) (i : ℕ) → AllPairs ◌≢◌ q → i < length q → ((c : WaitingCell) → slice_get (map (cell_at R T) q) i ≡ Some c → c.path ≡ path) → remove (map (cell_at R T) q) i ≡ map (cell_at R T) (filter (other path) q)
-  removed path [] i once l at = absurd (omega (arith, l))
-  removed path (p ∷ q) zero once l at =
-      let same : p ≡ path = at (cell_at R T p) refl in
-      let apart : (y : List Side) → Contains q y → other path y ≡ true = λ y c.
-      ap not (differs path y (λ e. once 0 (suc c.0) y (omega arith) (let m = c.1 in omega arith) (same ∙ e ∙ sym c.2)) (path_eq path y) refl) in
-      let is : path_eq path p ≡ true = subst (λ (x : List Side). path_eq path x ≡ true) (sym same) (path_eq_same path) in
-      sym (ap (λ (b : Bool). map (cell_at R T) (cond (not b) (p ∷ filter (other path) q) (filter (other path) q))) is ∙ ap (map (cell_at R T)) (all_kept (other path) q apart))
-  removed path (p ∷ q) (suc k) once l at =
-      let there : get_or q k path ≡ path = at (cell_at R T (get_or q k path)) (at_place q k path (omega (arith, l))) in
-      let no_same : path_eq path p ≡ false = differs path p (λ e. once 0 (suc k) path (omega arith) l (sym e ∙ sym there)) (path_eq path p) refl in
-      ap (λ (cs : List WaitingCell). cell_at R T p ∷ cs) (removed path q k (λ i j d a b. once (suc i) (suc j) d (omega (arith, a)) (omega (arith, b))) (omega (arith, l)) at)
-      ∙ sym (ap (λ (b : Bool). map (cell_at R T) (cond (not b) (p ∷ filter (other path) q) (filter (other path) q))) no_same)
+  -- the cells of the other paths
+  without-map : (path : List Side) (q : List (List Side)) → without path (map (cell_at R T) q) ≡ map (cell_at R T) (filter (other path) q)
+  without-map path [] = refl
+  without-map path (p ∷ q) =
+      elim (path_eq path p) as (λ b. cond (not b) (cell_at R T p ∷ without path (map (cell_at R T) q)) (without path (map (cell_at R T) q))
+          ≡ map (cell_at R T) (cond (not b) (p ∷ filter (other path) q) (filter (other path) q))) [
+        | true ↦ without-map path q
+        | false ↦ ap (λ (cs : List WaitingCell). cell_at R T p ∷ cs) (without-map path q)
+      ]
 
   map_differs : (S : Tree) (q : List (List Side)) → ((p : List Side) → Contains q p → cell_at R T p ≡ cell_at R S p) → map (cell_at R T) q ≡ map (cell_at R S) q
   map_differs S [] h = refl
@@ -111,83 +91,75 @@ module _ (Root : Area) (W : ℕ) (H : History) (e : Entry) (legal : IsLegal Root
       ap (λ (R : Area). let x : WaitingCell = record { path = p; region = R } in x) (sym (region_at_stays Root W H legal (e ∷ []) p cell))
 
   -- the cells that wait after an event
-  pub waits_after : (waiting : List WaitingCell) (i : ℕ) → waiting ≡ waiting_in Root H → IsPlaceAt waiting e.path i
-      → remove waiting i ++ map (cell_at Root (outcome_at (H ++ e ∷ []))) (parts_by e.path e.outcome) ≡ waiting_in Root (H ++ e ∷ [])
-  waits_after waiting i is place =
-      let l : i < length (queue_of H) = omega (arith, place.within, ap length is, length-map (queue_of H) (cell_at Root (outcome_at H))) in
-      let at : (c : WaitingCell) → slice_get (waiting_in Root H) i ≡ Some c → c.path ≡ e.path = λ c g. place.there c (ap (λ (cs : List WaitingCell). slice_get cs i) is ∙ g) in
-      let gone : remove waiting i ≡ map (cell_at Root (outcome_at after)) (filter (other e.path) (queue_of H))
-      = ap (λ (cs : List WaitingCell). remove cs i) is
-      ∙ removed Root (outcome_at H) e.path (queue_of H) i (queue_is Root W H legal).once l at
+  pub waits_after : (waiting : List WaitingCell) → waiting ≡ waiting_in Root H
+      → without e.path waiting ++ map (cell_at Root (outcome_at (H ++ e ∷ []))) (parts_by e.path e.outcome) ≡ waiting_in Root (H ++ e ∷ [])
+  waits_after waiting is =
+      let gone : without e.path waiting ≡ map (cell_at Root (outcome_at after)) (filter (other e.path) (queue_of H))
+      = ap (without e.path) is ∙ without-map Root (outcome_at H) e.path (queue_of H)
       ∙ map_differs Root (outcome_at H) (outcome_at after) (filter (other e.path) (queue_of H)) stays in
       ap (λ (cs : List WaitingCell). cs ++ map (cell_at Root (outcome_at after)) (parts_by e.path e.outcome)) gone
       ∙ sym (map-append (cell_at Root (outcome_at after)) (filter (other e.path) (queue_of H)) (parts_by e.path e.outcome))
       ∙ ap (map (cell_at Root (outcome_at after))) (sym (queue-append H e))
 
-module _ (terms : Terms) (H : History) (v : Snapshot) (waiting : List WaitingCell) (path : List Side) (f : Found) (book : IsBook terms H v waiting) (may : MayEnter v path f) where
+module _ (terms : Terms) (H : History) (t : Growing) (path : List Side) (f : Found) (book : IsBook terms H t) (may : MayEnter t.version path f) (ready : IsReady terms H path f) (sound : IsSound f.region f.w f.outcome) where
   there : IsWelcome terms.root H path f
-  there = welcome terms.root H v book.stands path f may
+  there = welcome terms.root H t.version book.stands path f may
 
-  -- an open cell waits
-  pub not_lost : HasNoCell waiting path → ⊥
-  not_lost none =
-      let c = (queue_is terms.root terms.w H book.lawful.legal).from path there.is_open.cell there.is_open.open_yet in
-      let at = at_place terms.root (outcome_at H) (queue_of H) c.0 path c.1 in
-      none.others c.0 (cell_at terms.root (outcome_at H) (get_or (queue_of H) c.0 path)) (ap (λ (cs : List WaitingCell). slice_get cs c.0) book.waits ∙ at) c.2
+  abbrev e : Entry
+  e = event_at path f.outcome
 
-  module _ (ready : IsReady terms H path f) (sound : IsSound f.region f.w f.outcome) where
-    abbrev e : Entry
-    e = event_at path f.outcome
+  follows : MayFollow terms.root terms.w H e
+  follows = record {
+    there = there.is_open.cell;
+    fresh = there.is_open.open_yet;
+    sound = subst (λ (R : Area). IsSound R terms.w f.outcome) there.same (subst (λ (n : ℕ). IsSound f.region n f.outcome) ready.w sound);
+  }
 
-    follows : MayFollow terms.root terms.w H e
-    follows = record {
-      there = there.is_open.cell;
-      fresh = there.is_open.open_yet;
-      sound = subst (λ (R : Area). IsSound R terms.w f.outcome) there.same (subst (λ (n : ℕ). IsSound f.region n f.outcome) ready.w sound);
-    }
+  planned : (L : Budget) → terms.plan ≡ Some L → IsPlanned terms.root L (H ++ e ∷ [])
+  planned L is =
+      let old : IsPlanned terms.root L H = book.lawful.planned L is in
+      let start : History = ready.planned.0 in
+      let rest : History = ready.planned.1.0 in
+      let legal : IsLegal terms.root L.wits (start ++ rest) = subst (IsLegal terms.root L.wits) ready.planned.1.1 old.legal in
+      let next : MayComeNext terms.root L H e = subst (λ (G : History). MayComeNext terms.root L G e) (sym ready.planned.1.1) (comes_next terms.root L start rest path f.outcome legal (ready.planned.2 L is)) in
+      IsPlanned-append terms.root L H e old (subst (λ (n : ℕ). MayFollow terms.root n H e) (sym (book.bounds.same L is)) follows) next
 
-    planned : (L : Budget) → terms.plan ≡ Some L → IsPlanned terms.root L (H ++ e ∷ [])
-    planned L is =
-        let old : IsPlanned terms.root L H = book.lawful.planned L is in
-        let start : History = ready.planned.0 in
-        let rest : History = ready.planned.1.0 in
-        let legal : IsLegal terms.root L.wits (start ++ rest) = subst (IsLegal terms.root L.wits) ready.planned.1.1 old.legal in
-        let next : MayComeNext terms.root L H e = subst (λ (G : History). MayComeNext terms.root L G e) (sym ready.planned.1.1) (comes_next terms.root L start rest path f.outcome legal (ready.planned.2 L is)) in
-        IsPlanned-append terms.root L H e old (subst (λ (n : ℕ). MayFollow terms.root n H e) (sym (book.bounds.same L is)) follows) next
+  -- the book with the event
+  entered : (u : Growing) (same : Terms) → u.version ≡ with_entry t.version path f.outcome
+      → u.waiting ≡ without path t.waiting ++ map (cell_in u.version) (parts_by path f.outcome) → same ≡ terms → IsBook same (H ++ event_at path f.outcome ∷ []) u
+  entered u same is parts equal =
+      let stands : StandsFor terms.root (H ++ e ∷ []) u.version = subst (StandsFor terms.root (H ++ e ∷ [])) (sym is) (Stands-append terms.root H t.version e book.stands there.is_open.open_yet) in
+      let made : IsBook terms (H ++ e ∷ []) u = record {
+        bounds = book.bounds;
+        lawful = record { legal = IsLegal-append terms.root terms.w H e book.lawful.legal follows; planned = planned };
+        stands = stands;
+        waits = parts ∙ ap (λ (cs : List WaitingCell). without path t.waiting ++ cs) (cells_same terms.root (H ++ e ∷ []) u.version stands (parts_by path f.outcome))
+            ∙ waits_after terms.root terms.w H e book.lawful.legal t.waiting book.waits;
+      } in
+      subst (λ (x : Terms). IsBook x (H ++ e ∷ []) u) (sym equal) made
 
-    -- the book with the event
-    pub entered : (w : Snapshot) (next : List WaitingCell) (i : ℕ) (same : Terms) → w ≡ with_entry v path f.outcome → IsPlaceAt waiting path i
-        → next ≡ remove waiting i ++ map (cell_in w) (parts_by path f.outcome) → same ≡ terms → IsBook same (H ++ event_at path f.outcome ∷ []) w next
-    entered w next i same is place parts t =
-        let stands : StandsFor terms.root (H ++ e ∷ []) w = subst (StandsFor terms.root (H ++ e ∷ [])) (sym is) (Stands-append terms.root H v e book.stands there.is_open.open_yet) in
-        let made : IsBook terms (H ++ e ∷ []) w next = record {
-          bounds = book.bounds;
-          lawful = record { legal = IsLegal-append terms.root terms.w H e book.lawful.legal follows; planned = planned };
-          stands = stands;
-          waits = parts ∙ ap (λ (cs : List WaitingCell). remove waiting i ++ cs) (cells_same terms.root (H ++ e ∷ []) w stands (parts_by path f.outcome))
-              ∙ waits_after terms.root terms.w H e book.lawful.legal waiting i book.waits place;
-        } in
-        subst (λ (u : Terms). IsBook u (H ++ e ∷ []) w next) (sym t) made
+  -- the same, as the book's parts are made
+  pub book_after : (u : Growing) (events now : History) (o : Outcome) (same : Terms) → u.version ≡ with_entry t.version path f.outcome
+      → u.waiting ≡ without path t.waiting ++ map (cell_in u.version) (parts_by path f.outcome)
+      → events ≡ H → now ≡ events ++ event_at path o ∷ [] → o ≡ f.outcome → same ≡ terms → (now ≡ H ++ event_at path f.outcome ∷ []) × IsBook same now u
+  book_after u events now o same is parts a b d equal =
+      let grown : now ≡ H ++ event_at path f.outcome ∷ [] = b ∙ ap₂ (λ (G : History) (x : Outcome). G ++ event_at path x ∷ []) a d in
+      (grown, subst (λ (G : History). IsBook same G u) (sym grown) (entered u same is parts equal))
 
-    -- the same, as the book's parts are made
-    pub book_after : (w : Snapshot) (events now : History) (o : Outcome) (cells next parts : List WaitingCell) (i : ℕ) (same : Terms) → w ≡ with_entry v path f.outcome
-        → IsPlaceAt cells path i → cells ≡ waiting → next ≡ remove cells i ++ parts → parts ≡ map (cell_in w) (parts_by path f.outcome)
-        → events ≡ H → now ≡ events ++ event_at path o ∷ [] → o ≡ f.outcome → same ≡ terms → (now ≡ H ++ event_at path f.outcome ∷ []) × IsBook same now w next
-    book_after w events now o cells next parts i same is place c n m a b d t =
-        let grown : now ≡ H ++ event_at path f.outcome ∷ [] = b ∙ ap₂ (λ (G : History) (u : Outcome). G ++ event_at path u ∷ []) a d in
-        let kept : next ≡ remove waiting i ++ map (cell_in w) (parts_by path f.outcome) = n ∙ ap₂ (λ (x y : List WaitingCell). remove x i ++ y) c m in
-        (grown, subst (λ (G : History). IsBook same G w next) (sym grown) (entered w next i same is (subst (λ (cs : List WaitingCell). IsPlaceAt cs path i) c place) kept t))
+  -- the event is the last of the history
+  pub done : (u : Growing) (now : History) (n : ℕ) → now ≡ H ++ event_at path f.outcome ∷ [] → n ≡ length now → IsBook terms now u → Commits terms path f H (IsDone n) now
+  done u now n is count made = record { answer = (there, is, count); lawful = made.lawful }
 
-    -- the event is the last of the history
-    pub done : (w : Snapshot) (next : List WaitingCell) (now : History) (n : ℕ) → now ≡ H ++ event_at path f.outcome ∷ [] → n ≡ length now → IsBook terms now w next → Commits terms path f H (IsDone n) now
-    done w next now n is count made = record { answer = (there, is, count); lawful = made.lawful }
+-- an entry leaves the terms as they are
+pub same_terms : (u t : Growing) (w : ℕ) (plan : Option Budget) (path : List Side) (o : Outcome) → u.version ≡ with_entry t.version path o → terms_of u w plan ≡ terms_of t w plan
+same_terms u t w plan path o is = λ i. record { root = ap (λ (v : Snapshot). v.region) is i; w = w; plan = plan }
 
 -- what a version's refusal says of the history
-module _ (terms : Terms) (H : History) (v : Snapshot) (waiting : List WaitingCell) (path : List Side) (f : Found) (book : IsBook terms H v waiting) where
-  tree : tree_of v ≡ outcome_at H
-  tree = same_tree terms.root H v book.stands
+module _ (terms : Terms) (H : History) (g : Growing) (path : List Side) (f : Found) (book : IsBook terms H g) where
+  tree : tree_of g.version ≡ outcome_at H
+  tree = same_tree terms.root H g.version book.stands
 
-  by_refusal : (e : TreeErr) → IsTreeErr v path f e → Answers terms H path f (commit_of e) H
+  by_refusal : (e : TreeErr) → IsTreeErr g.version path f e → Answers terms H path f (commit_of e) H
   by_refusal (NotThere p) t =
       let u : (IsCellOf (outcome_at H) path → ⊥) × IsLongestCell (outcome_at H) path p = subst (λ (T : Tree). (IsCellOf T path → ⊥) × IsLongestCell T path p) tree t in
       (refl, u.0, u.1)
@@ -198,23 +170,23 @@ module _ (terms : Terms) (H : History) (v : Snapshot) (waiting : List WaitingCel
       (refl, subst (λ (T : Tree). IsOpenIn T path) tree t.0, t.1 ∙ ap₂ (λ (R : Area) (T : Tree). region_at R T path) book.stands.region tree, t.2)
   by_refusal (NoMemory g) t = (refl, t)
 
-  pub refused : (e : TreeErr) (reply : Commit) (now : History) → IsTreeErr v path f e → reply ≡ commit_of e → now ≡ H → Commits terms path f H reply now
+  pub refused : (e : TreeErr) (reply : Commit) (now : History) → IsTreeErr g.version path f e → reply ≡ commit_of e → now ≡ H → Commits terms path f H reply now
   refused e reply now t is same = record {
     answer = subst (λ (G : History). Answers terms H path f reply G) (sym same) (subst (λ (r : Commit). Answers terms H path f r H) (sym is) (by_refusal e t));
     lawful = subst (IsLawful terms) (sym same) book.lawful;
   }
 
 -- the book without an event
-pub no_event : (terms same : Terms) (v : Snapshot) (H : History) (waiting : List WaitingCell) → AreTerms terms → v ≡ record { region = terms.root; entries = finite.empty }
-    → H ≡ [] → waiting ≡ record { path = []; region = v.region } ∷ [] → same ≡ terms → IsBook same H v waiting
-no_event terms same v H waiting bounds is none one t =
-    let made : IsBook terms [] v waiting = record {
+pub no_event : (terms same : Terms) (t : Growing) (H : History) → AreTerms terms → t.version ≡ record { region = terms.root; entries = finite.empty }
+    → H ≡ [] → t.waiting ≡ record { path = []; region = terms.root } ∷ [] → same ≡ terms → IsBook same H t
+no_event terms same t H bounds is none one equal =
+    let made : IsBook terms [] t = record {
       bounds = bounds;
       lawful = record { legal = IsLegal-empty terms.root terms.w; planned = λ L e. IsPlanned-empty terms.root L };
       stands = subst (StandsFor terms.root []) (sym is) (Stands-empty terms.root);
-      waits = one ∙ ap (λ (R : Area). let x : WaitingCell = record { path = []; region = R } in x ∷ []) (ap (λ (w : Snapshot). w.region) is ∙ sym (append-nil terms.root));
+      waits = one ∙ ap (λ (R : Area). let x : WaitingCell = record { path = []; region = R } in x ∷ []) (sym (append-nil terms.root));
     } in
-    subst (λ (u : Terms). IsBook u H v waiting) (sym t) (subst (λ (G : History). IsBook terms G v waiting) (sym none) made)
+    subst (λ (u : Terms). IsBook u H t) (sym equal) (subst (λ (G : History). IsBook terms G t) (sym none) made)
 
 -- what fits the plan at a beginning of what was seen is ready for each history that goes on from there
 pub ready_later : (terms same : Terms) (seen list : History) (path : List Side) (f : Found) → same ≡ terms → Begins seen list → f.w ≡ terms.w → IsShortCut path f.outcome

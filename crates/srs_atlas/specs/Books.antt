@@ -1,5 +1,6 @@
 -- What the book of an atlas keeps, and what its operations promise.
-use Rattle.std.specs.Prelude.{◌≡◌, ◌≤◌, List, map, Some, IfOk}
+use Rattle.std.specs.Prelude.{◌≡◌, ◌≤◌, ℕ, List, map, Some, IfOk}
+use Rattle.std.specs.declared.option.Option.{Option}
 use Rattle.std.specs.declared.result.Result.{Result}
 use Rattle.srs_num.specs.declared.pairs.NoMemory.{NoMemory}
 use Rattle.srs_plane.specs.Regions.{Area}
@@ -9,7 +10,7 @@ use Rattle.srs_tree.specs.Tree.{History, Tree, outcome_at, region_at}
 use Rattle.srs_tree.specs.Legality.{IsLegal}
 use Rattle.srs_tree.specs.Rounds.{IsPlanned}
 use Rattle.srs_tree.specs.Snapshots.{Snapshot, StandsFor}
-use Rattle.srs_tree.specs.Queue.{WaitingCell, queue_of}
+use Rattle.srs_tree.specs.Queue.{WaitingCell, Growing, queue_of}
 use Rattle.srs_atlas.specs.declared.book.Terms.{Terms}
 
 -- a cell has 1 to 16384 witnesses at most, and a plan has this number of witnesses
@@ -32,16 +33,20 @@ abbrev pub waiting_in : Area → History → List WaitingCell
 waiting_in Root H = map (cell_at Root (outcome_at H)) (queue_of H)
 
 -- a book: its history and its terms
-pub record Kept : Type 0 where
+pub record BookView : Type 0 where
   pub history : History
   pub terms : Terms
 
+-- the terms of a tree's region
+abbrev pub terms_of : Growing → ℕ → Option Budget → Terms
+terms_of t w plan = record { root = t.version.region; w = w; plan = plan }
+
 -- what a book keeps: the history is lawful, the version stands for it, and the cells without an event wait
-pub record IsBook (terms : Terms) (H : History) (v : Snapshot) (waiting : List WaitingCell) : Type 0 where
+pub record IsBook (terms : Terms) (H : History) (t : Growing) : Type 0 where
   pub bounds : AreTerms terms
   pub lawful : IsLawful terms H
-  pub stands : StandsFor terms.root H v
-  pub waits : waiting ≡ waiting_in terms.root H
+  pub stands : StandsFor terms.root H t.version
+  pub waits : t.waiting ≡ waiting_in terms.root H
 
 -- the version that stands for the history was given, or there was no memory
 pub record Shares (terms : Terms) (before : History) (reply : Result Snapshot NoMemory) (after : History) : Type 0 where

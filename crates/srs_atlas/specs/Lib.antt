@@ -1,4 +1,3 @@
 pub mod Books
 pub mod Commits
-pub mod Waiting
 pub mod Counting

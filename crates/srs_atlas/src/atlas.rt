@@ -10,36 +10,32 @@ ghost use Rattle.srs_atlas.specs.Books.{AreTerms, IsLawful, waiting_in};
 ghost use Rattle.srs_atlas.specs.Counting.{AreCounts};
 ghost use Rattle.srs_atlas.specs.Commits.{FitsPlan, Answers};
 
-use crate::book::{Book, Terms};
-use crate::commits::Commit;
+use crate::book::Book;
+use crate::commits::{Commit, prepared};
 use crate::counts::Counts;
 use crate::operations::{Count, Enter, List, Share};
 use srs_cell::Cell;
 use srs_num::NoMemory;
 use srs_path::{Finding, Limits, Path};
 use srs_tree::{Journal, PendingList, Version};
-use srs_turn::{Pass, Told, Turn};
+use srs_turn::{Pass, Turn};
 use std::alloc::Global;
 use std::marker::Model;
 use std::sync::Wait;
 
-/// A book that threads use in turn, and what no operation on it changes: the most witnesses of a cell, and the plan, if
-/// there is one. It is over any book, so that it is proved here, once, that threads may share it.
+/// A tree that threads refine and ask at the same time. It is seen as which atlas it is, and what no operation changes
+/// (`fixed`): its root region, the most witnesses of a cell, and its plan, if it has one.
 #[derive(Drop)]
-pub struct AtlasOf<B: Told<Fixed = Terms>> {
-    turn: Turn<B>,
+pub struct Atlas {
+    turn: Turn<Book>,
     w: u32,
     plan: Option<Limits>,
 }
 
-/// A tree that threads refine and ask at the same time. It is seen as which atlas it is, and what no operation changes
-/// (`fixed`): its root region, the most witnesses of a cell, and its plan, if it has one.
-pub type Atlas = AtlasOf<Book>;
-
 /// What one thread knows of an atlas: the history that it has seen.
 pub type AtlasPass = Pass<Book>;
 
-impl<B: Told<Fixed = Terms>> Model for AtlasOf<B> {
+impl Model for Atlas {
     ghost use Rattle.std.specs.Prelude.{◌≡◌};
     ghost use Rattle.srs_turn.specs.Passes.{TurnId};
     ghost use Rattle.srs_atlas.specs.declared.book.Terms.{Terms};
@@ -96,7 +92,7 @@ impl Atlas {
     {
         let book = Book::new(alloc, cell, w, &plan)?;
         match Turn::start(rt, alloc, book) {
-            Ok((turn, pass)) => Ok((AtlasOf { turn, w, plan }, pass)),
+            Ok((turn, pass)) => Ok((Atlas { turn, w, plan }, pass)),
             Err(_) => Err(NoMemory),
         }
     }
@@ -142,7 +138,7 @@ impl Atlas {
             Enter {
                 alloc,
                 path,
-                finding: f,
+                finding: prepared(alloc, f),
             },
         )
     }
@@ -228,7 +224,7 @@ impl Atlas {
         ensures version { StandsFor self.fixed.root result.1 result.0 }
         ensures lawful { IsLawful self.fixed result.1 }
     {
-        let AtlasOf { turn, .. } = self;
+        let Atlas { turn, .. } = self;
         turn.finish(rt, pass).close()
     }
 }

@@ -8,12 +8,11 @@ ghost use Rattle.srs_atlas.specs.Commits.{IsReady, Commits};
 
 use crate::commits::{Commit, refused};
 use crate::counts::{Counts, counts_of};
-use crate::lists::{place_of, replace, shared_cells};
 use srs_cell::Cell;
 use srs_num::NoMemory;
 use srs_path::{Event, Finding, Limits, Path};
 use srs_plane::Region;
-use srs_tree::{Grown, Journal, Pending, PendingList, Version};
+use srs_tree::{Added, GrowingTree, Journal, PendingList, Version};
 use srs_turn::Told;
 use std::alloc::Global;
 use std::marker::Model;
@@ -26,24 +25,23 @@ pub struct Terms {
     pub plan: Option<Limits>,
 }
 
-/// A history, with the version that stands for it and the cells that wait.
+/// A history, with the tree that stands for it and knows the cells that wait.
 #[derive(Drop)]
 pub struct Book {
-    version: Version,
+    tree: GrowingTree,
     events: Vec<Event>,
-    waiting: Vec<Pending>,
     w: u32,
     plan: Option<Limits>,
 }
 
 impl Model for Book {
-    ghost use Rattle.srs_atlas.specs.Books.{Kept, IsBook};
+    ghost use Rattle.srs_atlas.specs.Books.{BookView, IsBook, terms_of};
 
-    ghost Value = { Kept };
+    ghost Value = { BookView };
 
-    ghost view = { λ b. record { history = b.events.items; terms = record { root = b.version.region; w = b.w; plan = b.plan } } };
+    ghost view = { λ b. record { history = b.events.items; terms = terms_of b.tree b.w b.plan } };
 
-    ghost invariant = { λ b. IsBook (record { root = b.version.region; w = b.w; plan = b.plan }) b.events.items b.version b.waiting.items };
+    ghost invariant = { λ b. IsBook (terms_of b.tree b.w b.plan) b.events.items b.tree };
 }
 
 impl Told for Book {
@@ -73,19 +71,12 @@ impl Book {
         ensures history { IfOk result (λ b. b.history ≡ []) }
         ensures terms { IfOk result (λ b. b.terms ≡ record { root = cell; w = w; plan = plan.now }) }
     {
-        let version = Version::start(alloc, cell)?;
-        let root = version.root()?;
-        let mut waiting = Vec::new(alloc);
-        match waiting.push(root) {
-            Ok(()) => Ok(Book {
-                version,
-                events: Vec::new(alloc),
-                waiting,
-                w,
-                plan: *plan,
-            }),
-            Err(_) => Err(NoMemory),
-        }
+        Ok(Book {
+            tree: GrowingTree::start(alloc, cell)?,
+            events: Vec::new(alloc),
+            w,
+            plan: *plan,
+        })
     }
 
     // The finding comes to the cell at the path. All memory is taken before anything changes.
@@ -97,20 +88,11 @@ impl Book {
     {
         // A finding is sound.
         let _ = f.w();
-        if self.events.reserve(1).is_err() || self.waiting.reserve(2).is_err() {
+        if self.events.reserve(1).is_err() {
             return Commit::NoMemory(f);
         }
-        match self.version.grown(alloc, path, f) {
-            Ok(Grown {
-                version,
-                outcome,
-                parts,
-            }) => {
-                self.version = version;
-                let Some(at) = place_of(&self.waiting, &path) else {
-                    unreachable!()
-                };
-                replace(&mut self.waiting, at, parts);
+        match self.tree.enter(alloc, path, f) {
+            Ok(Added { outcome, .. }) => {
                 self.events.push_reserved(Event { path, outcome });
                 Commit::Done(self.events.len() as u64)
             }
@@ -123,7 +105,7 @@ impl Book {
         ensures version { IfOk result (StandsFor self.now.terms.root self.now.history) }
         ensures lawful { IsLawful self.now.terms self.now.history }
     {
-        self.version.share(alloc)
+        self.tree.version(alloc)
     }
 
     // The cells that wait, shared. An `Err` is want of memory.
@@ -131,7 +113,7 @@ impl Book {
         ensures cells { IfOk result (λ list. list ≡ waiting_in self.now.terms.root self.now.history) }
         ensures lawful { IsLawful self.now.terms self.now.history }
     {
-        shared_cells(alloc, &self.waiting)
+        self.tree.waiting(alloc)
     }
 
     // How many cells there are down to a round, and in it.
@@ -148,11 +130,7 @@ impl Book {
         ensures version { StandsFor self.terms.root self.history result.0 }
         ensures lawful { IsLawful self.terms self.history }
     {
-        let Book {
-            version,
-            events,
-            ..
-        } = self;
-        (version, Journal::of(events))
+        let Book { tree, events, .. } = self;
+        (tree.finish(), Journal::of(events))
     }
 }

@@ -5,6 +5,7 @@ ghost use Rattle.srs_atlas.specs.Commits.{commit_of};
 use srs_cell::Cell;
 use srs_path::{Finding, Outcome, Path};
 use srs_tree::TreeErr;
+use std::alloc::Global;
 use std::sync::Arc;
 
 /// What became of a finding at a path: the history has this many events, the last of which is the finding's; the cell had
@@ -28,5 +29,16 @@ pub(crate) fn refused(refusal: TreeErr) -> Commit
         TreeErr::Done(outcome) => Commit::Late(outcome),
         TreeErr::OtherCell(cell) => Commit::OtherCell(cell),
         TreeErr::NoMemory(finding) => Commit::NoMemory(finding),
+    }
+}
+
+// The finding, with its outcome where it can have more owners, so that less is to be done under the turn. Where there is no
+// memory for that, it is done there.
+pub(crate) fn prepared(alloc: Global, f: Finding) -> Finding
+    ensures { result ≡ f }
+{
+    match f.share_outcome(alloc) {
+        Ok((_, f)) => f,
+        Err(f) => f,
     }
 }

@@ -9,6 +9,7 @@ use Rattle.srs_path.specs.contracts.paths.Path as path
 use Rattle.srs_blocks.proofs.Crossing.{list_send, list_sync}
 use Rattle.srs_tree.specs.contracts.nodes.Node as node
 use Rattle.srs_tree.specs.contracts.versions.Version as version
+use Rattle.srs_tree.specs.contracts.in_place.GrowingTree as growing
 
 pub region_send : IsSend region.the_row
 region_send = search (sendable, crosses, both_send-Chain, both_sync-Chain) depth 20
@@ -45,3 +46,9 @@ version_send = search (sendable, crosses, node_send, node_sync, list_send) depth
 
 pub version_sync : IsSync version.the_row
 version_sync = search (sendable, crosses, node_send, node_sync, list_sync) depth 20
+
+pub growing_send : IsSend growing.the_row
+growing_send = search (sendable, crosses, node_send, node_sync, list_send) depth 20
+
+pub growing_sync : IsSync growing.the_row
+growing_sync = search (sendable, crosses, node_send, node_sync, list_sync) depth 20

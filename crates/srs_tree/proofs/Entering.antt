@@ -18,6 +18,10 @@ use Rattle.srs_tree.specs.Tree.{IsCellOf, region_at}
 use Rattle.srs_tree.specs.Growth.{IsProvedOf, IsShortCut, IsOpenIn, IsTreeErr, SaysDone, SaysOther}
 use Rattle.srs_tree.specs.Snapshots.{side_cmp, Snapshot, tree_of, with_entry}
 use Rattle.srs_tree.specs.Nodes.{Spot, entries_of, root_of, snapshot_of, spots_tree, IsSpotOf, AreSpots, IsPlaceOf, parts_from, spot_with, grown, IsReadyFor, MaySettle, IsOpenAt, IsCounted, HasGrown}
+use Rattle.srs_tree.specs.Nodes.{open_cells}
+use Rattle.srs_tree.specs.Queue.{WaitingCell, without}
+use Rattle.srs_tree.proofs.OpenCells.{open_after}
+use Rattle.srs_tree.proofs.Opened.{parts_came}
 use Rattle.srs_tree.proofs.Places.{set_left}
 use Rattle.srs_tree.proofs.Growing.{are_spots, snapshot_after, len_after, entries_fewer}
 use Rattle.srs_tree.proofs.Spots.{tree_there}
@@ -49,6 +53,8 @@ module _ (xs : List Spot) (p : List Side) (f : Found) (i : ℕ) (tree : AreSpots
         spots = subst AreSpots (sym same) (are_spots xs i at.spot f.outcome tree at.is at.fresh proved);
         snapshot = ap snapshot_of same ∙ snapshot_after xs i at.spot f.outcome tree at.is at.fresh proved ∙ ap (λ (q : List Side). with_entry (snapshot_of xs) q f.outcome) at.at_path;
         count = ap (λ (zs : List Spot). finite.len (entries_of zs)) same ∙ len_after xs i at.spot f.outcome tree at.is at.fresh proved;
+        waiting = ap open_cells same ∙ open_after xs i at.spot f.outcome tree.once at.is at.fresh
+            ∙ ap₂ (λ (q : List Side) (ws : List WaitingCell). without q (open_cells xs) ++ ws) at.at_path (parts_came xs ys p f i tree at sound same);
         few = let less = entries_fewer xs i at.spot at.is at.fresh in omega (arith, less, most);
       }
 

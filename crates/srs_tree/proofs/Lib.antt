@@ -27,3 +27,4 @@ pub mod Ways
 pub mod Meeting
 pub mod Clipping
 pub mod Crossing
+pub mod OpenCells

@@ -11,7 +11,8 @@ use Rattle.srs_path.specs.declared.outcomes.Outcome.TheVariants.{Inside, Outside
 use Rattle.srs_path.specs.Views.{Found}
 use Rattle.srs_tree.specs.Tree.{Tree, IsCellOf, HoldsAt, half_on}
 use Rattle.srs_tree.specs.Snapshots.{Entries, Snapshot, tree_of, with_entry}
-use Rattle.srs_tree.specs.Queue.{WaitingCell}
+use Rattle.srs_tree.specs.Rounds.{parts_by}
+use Rattle.srs_tree.specs.Queue.{WaitingCell, cell_in, without}
 use Rattle.srs_tree.specs.Growth.{IsProvedOf, IsShortCut, MayEnter}
 
 -- a cell's path, its region, its outcome if it has one, and for a cut the place of its Ge part, after which the Lt part stands
@@ -93,6 +94,16 @@ grown xs i x o = slice_set xs i (spot_with x o (length xs)) ++ parts_from x o
 abbrev pub waiting_of : Spot → WaitingCell
 waiting_of x = record { path = x.path; region = x.region }
 
+-- the spot alone, if it has no outcome
+abbrev pub if_open : Spot → Option Outcome → List WaitingCell
+if_open x None = waiting_of x ∷ []
+if_open x (Some o) = []
+
+-- the spots without an outcome, in order
+abbrev pub open_cells : List Spot → List WaitingCell
+open_cells [] = []
+open_cells (x ∷ xs) = if_open x x.outcome ++ open_cells xs
+
 -- the spot at the place i has this path
 pub record IsPlaceOf (xs : List Spot) (p : List Side) (i : ℕ) : Type 0 where
   pub spot : Spot
@@ -140,6 +151,7 @@ pub record HasGrown (xs ys : List Spot) (p : List Side) (f : Found) : Type 0 whe
   pub snapshot : snapshot_of ys ≡ with_entry (snapshot_of xs) p f.outcome
   pub count : finite.len (entries_of ys) ≡ finite.len (entries_of xs) + 1
   pub few : finite.len (entries_of xs) < 2 ^ 48
+  pub waiting : open_cells ys ≡ without p (open_cells xs) ++ map (cell_in (snapshot_of ys)) (parts_by p f.outcome)
 
 -- the spot at the place i holds each point of the region
 abbrev pub HoldsAll : List Spot → ℕ → Area → Type 0

@@ -6,7 +6,7 @@ ghost use Rattle.srs_tree.specs.Rounds.{parts_by};
 ghost use Rattle.srs_tree.specs.Queue.{cell_in, cells_from};
 ghost use Rattle.srs_tree.specs.Growth.{IsShortCut, MayEnter, IsTreeErr};
 
-use crate::{Pending, TreeErr, Version};
+use crate::{GrowingTree, Pending, TreeErr, Version};
 use srs_cell::Cell;
 use srs_num::NoMemory;
 use srs_path::{Finding, Path};
@@ -17,7 +17,7 @@ use std::marker::Model;
 /// keeps.
 #[derive(Drop)]
 pub struct TreeBuilder {
-    version: Version,
+    tree: GrowingTree,
 }
 
 impl Model for TreeBuilder {
@@ -27,7 +27,7 @@ impl Model for TreeBuilder {
 
     ghost coded = { snapshot_code };
 
-    ghost view = { λ b. b.version };
+    ghost view = { λ b. b.tree.version };
 }
 
 impl TreeBuilder {
@@ -37,7 +37,7 @@ impl TreeBuilder {
         ensures { IfOk result (λ b. b ≡ record { region = cell; entries = map.empty }) }
     {
         Ok(TreeBuilder {
-            version: Version::start(alloc, cell)?,
+            tree: GrowingTree::start(alloc, cell)?,
         })
     }
 
@@ -45,7 +45,7 @@ impl TreeBuilder {
     pub fn root(&self) -> Result<Pending, NoMemory>
         ensures { IfOk result (λ root. root ≡ record { path = []; region = self.now.region }) }
     {
-        self.version.root()
+        self.tree.root()
     }
 
     /// The outcome of the finding is entered at the path; a cut's path is shorter than 48. It gives the two cells that a cut
@@ -66,13 +66,13 @@ impl TreeBuilder {
         ensures refused { IfErr result (λ e. IsTreeErr self.old path f e) }
         ensures same { OnErr result (self.new ≡ self.old) }
     {
-        Ok(self.version.enter(alloc, path, f)?.parts)
+        Ok(self.tree.enter(alloc, path, f)?.parts)
     }
 
     /// The version with what was entered. It takes no memory.
     pub fn finish(self) -> Version
         ensures { result ≡ self }
     {
-        self.version
+        self.tree.finish()
     }
 }

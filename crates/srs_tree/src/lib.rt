@@ -4,6 +4,7 @@
 mod answers;
 mod builders;
 mod descents;
+mod in_place;
 mod growth;
 mod journals;
 mod laws;
@@ -19,6 +20,7 @@ mod walks;
 
 pub use answers::{Answer, Met, Reply};
 pub use builders::TreeBuilder;
+pub use in_place::GrowingTree;
 pub use journals::Journal;
 pub use laws::{histories, one_answer, whole_trees};
 pub use queries::{Askable, Queries, Query, Said};
@@ -26,4 +28,4 @@ pub use refusals::TreeErr;
 pub use sessions::{Ascending, Few, Run, Script, Segment, Session, Transcript, Transcripts};
 pub use sharing::shared;
 pub use versions::{Grown, Version};
-pub use waiting::{Pending, PendingList};
+pub use waiting::{Added, Pending, PendingList};

@@ -1,17 +1,18 @@
 // The cells of a tree in the order in which they were made.
-ghost use Rattle.std.specs.Prelude.{◌≡◌, length, ◌+◌, ◌<◌, ◌^◌, Some, None, IfOk, IfErr, IfSome, IfNone, MatchOption, OnErr};
+ghost use Rattle.std.specs.Prelude.{◌≡◌, length, ◌++◌, ◌+◌, ◌<◌, ◌^◌, Some, None, IfOk, IfErr, IfSome, IfNone, MatchOption, OnOk, OnErr};
 ghost use Rattle.srs_num.specs.Points.{LinearForm};
 ghost use Rattle.srs_path.specs.declared.outcomes.Outcome.TheVariants.{Cut as IsCut};
-ghost use Rattle.srs_tree.specs.Nodes.{Spot, AreSpots, IsPlaceOf, part_place, spots_tree, waiting_of, spot_with, IsPartWith};
+ghost use Rattle.srs_tree.specs.Nodes.{Spot, AreSpots, IsPlaceOf, part_place, spots_tree, waiting_of, spot_with, if_open, open_cells, IsPartWith};
 ghost use Rattle.srs_tree.specs.Answers.{reply_of, reply_by};
 ghost use Rattle.srs_tree.specs.Growth.{IsLongestCell};
 ghost use Rattle.srs_tree.specs.Tree.{IsCellOf};
 
-use crate::{Answer, Pending};
+use crate::{Answer, Pending, PendingList};
 use srs_blocks::{BlockList, Share};
 use srs_cell::Cell;
 use srs_num::{Form, NoMemory, Pt, Steps};
 use srs_path::{Outcome, Path, Side};
+use std::alloc::Global;
 use std::marker::Model;
 use std::sync::Arc;
 use std::sync::ledger::Ledger;
@@ -165,6 +166,30 @@ pub(crate) fn shared<T>(value: &Arc<T>) -> Result<Arc<T>, NoMemory>
     match Arc::try_clone(value) {
         Ok(copy) => Ok(copy),
         Err(_) => Err(NoMemory),
+    }
+}
+
+// The cells without an outcome, in order. An `Err` is want of memory.
+pub(crate) fn open_in(alloc: Global, nodes: &Nodes) -> Result<PendingList, NoMemory>
+    ensures { IfOk result (λ cells. cells ≡ open_cells nodes.now) }
+{
+    let mut cells = Vec::new(alloc);
+    for i in 0..nodes.len() {
+        list_open(nodes.get(i), &mut cells)?;
+    }
+    Ok(PendingList::of(cells))
+}
+
+// Lists the cell, if it has no outcome. An `Err` is want of memory.
+fn list_open(node: &Node, cells: &mut Vec<Pending>) -> Result<(), NoMemory>
+    ensures { OnOk result (cells.new.items ≡ cells.old.items ++ if_open node.now node.now.outcome) }
+{
+    match node.outcome() {
+        Some(_) => Ok(()),
+        None => {
+            cells.push(node.waiting()?)?;
+            Ok(())
+        }
     }
 }
 

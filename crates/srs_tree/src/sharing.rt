@@ -1,5 +1,5 @@
 // Threads pass versions, journals and refusals on and share them.
-use crate::{Answer, Journal, Pending, Queries, Reply, Said, TreeBuilder, TreeErr, Version};
+use crate::{Answer, GrowingTree, Journal, Pending, Queries, Reply, Said, TreeBuilder, TreeErr, Version};
 
 fn is_shared<T: Send + Sync>() {}
 
@@ -10,6 +10,7 @@ pub fn shared() {
     is_shared::<Said>();
     is_shared::<Queries>();
     is_shared::<Version>();
+    is_shared::<GrowingTree>();
     is_shared::<TreeBuilder>();
     is_shared::<Journal>();
     is_shared::<Pending>();

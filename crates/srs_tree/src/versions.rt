@@ -9,6 +9,7 @@ ghost use Rattle.srs_tree.specs.Snapshots.{tree_of, with_entry};
 ghost use Rattle.srs_tree.specs.Preorder.{preorder_of};
 ghost use Rattle.srs_tree.specs.Rounds.{parts_by};
 ghost use Rattle.srs_tree.specs.Queue.{cell_in, cells_from};
+ghost use Rattle.srs_tree.specs.Nodes.{snapshot_of, IsCounted};
 ghost use Rattle.srs_tree.specs.Growth.{IsVersion, IsShortCut, MayEnter, IsTreeErr};
 
 use crate::descents::leaf_with;
@@ -58,6 +59,14 @@ impl Model for Version {
 }
 
 impl Version {
+    // The version of these cells, of which so many have an outcome.
+    pub(crate) fn of(nodes: Nodes, count: u64) -> Version
+        requires { IsCounted nodes count }
+        ensures { result ≡ snapshot_of nodes }
+    {
+        Version { nodes, count }
+    }
+
     /// The version of the cell without an outcome, for a cell of at most 16 halves.
     pub fn start(alloc: Global, cell: Cell) -> Result<Version, NoMemory>
         requires { length cell ≤ 16 }
@@ -143,29 +152,6 @@ impl Version {
         let mut events = Journal::new(alloc);
         walk(&self.nodes, 0, &mut events)?;
         Ok(events)
-    }
-
-    // The outcome of the finding is entered at the path, and what came is given. All memory is taken before anything changes:
-    // an `Err` leaves the version as it was.
-    pub(crate) fn enter(&mut self, alloc: Global, path: Path, f: Finding) -> Result<Added, TreeErr>
-        requires { IsShortCut path f.outcome }
-        ensures may { OnOk result (MayEnter self.old path f) }
-        ensures entered { OnOk result (self.new ≡ with_entry self.old path f.outcome) }
-        ensures parts {
-            IfOk result (λ added.
-            cells_from added.parts ≡ map_list (cell_in self.new) (parts_by path f.outcome))
-        }
-        ensures refused { IfErr result (λ e. IsTreeErr self.old path f e) }
-        ensures same { OnErr result (self.new ≡ self.old) }
-    {
-        let (i, f) = place_for(&self.nodes, &path, f)?;
-        match enter(&mut self.nodes, alloc, &path, i, f) {
-            Ok(added) => {
-                self.count += 1;
-                Ok(added)
-            }
-            Err(f) => Err(TreeErr::NoMemory(f)),
-        }
     }
 
     /// The version with the outcome of the finding entered at the path; a cut's path is shorter than 48. With it come an owner

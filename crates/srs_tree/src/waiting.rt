@@ -24,9 +24,9 @@ impl Model for Pending {
 /// Cells without an event, seen as the list of them.
 pub type PendingList = Items<Pending>;
 
-// What comes with an entry: an owner of its outcome, and the two cells that a cut makes, Ge first.
+/// What comes with an entry: an owner of its outcome, and the two cells that a cut makes, Ge first.
 #[derive(Drop)]
-pub(crate) struct Added {
-    pub(crate) outcome: Arc<Outcome>,
-    pub(crate) parts: Option<(Pending, Pending)>,
+pub struct Added {
+    pub outcome: Arc<Outcome>,
+    pub parts: Option<(Pending, Pending)>,
 }

@@ -1,0 +1,18 @@
+-- Books may cross threads.
+use Rattle.std.proofs.Crossing.{crosses}
+use denote.Param.Send.{IsSend, IsSync, sendable}
+use Rattle.srs_path.specs.contracts.events.Event as event
+use Rattle.srs_tree.proofs.Crossing.{path_send, path_sync, outcome_send, outcome_sync, growing_send, growing_sync}
+use Rattle.srs_atlas.specs.contracts.book.Book as book
+
+pub event_send : IsSend event.the_row
+event_send = search (sendable, crosses, path_send, path_sync, outcome_send, outcome_sync) depth 20
+
+pub event_sync : IsSync event.the_row
+event_sync = search (sendable, crosses, path_send, path_sync, outcome_send, outcome_sync) depth 20
+
+pub book_send : IsSend book.the_row
+book_send = search (sendable, crosses, event_send, event_sync, growing_send, growing_sync) depth 20
+
+pub book_sync : IsSync book.the_row
+book_sync = search (sendable, crosses, event_send, event_sync, growing_send, growing_sync) depth 20
