@@ -4,6 +4,9 @@ use denote.Param.Send.{IsSend, IsSync, sendable}
 use Rattle.srs_path.specs.contracts.events.Event as event
 use Rattle.srs_tree.proofs.Crossing.{path_send, path_sync, outcome_send, outcome_sync, growing_send, growing_sync}
 use Rattle.srs_atlas.specs.contracts.book.Book as book
+use Rattle.srs_atlas.specs.contracts.atlas.Atlas as atlas
+use Rattle.atomic_table.proofs.shared.Shared.TheSendSync as shared
+use Rattle.atomic_table.proofs.send_lease.SendLease.TheSendSync as lease
 
 pub event_send : IsSend event.the_row
 event_send = search (sendable, crosses, path_send, path_sync, outcome_send, outcome_sync) depth 20
@@ -16,3 +19,12 @@ book_send = search (sendable, crosses, event_send, event_sync, growing_send, gro
 
 pub book_sync : IsSync book.the_row
 book_sync = search (sendable, crosses, event_send, event_sync, growing_send, growing_sync) depth 20
+
+-- the parts of a table of a book
+pub ruleset tables = (shared.the_send, shared.the_sync, lease.the_send, lease.the_sync)
+
+pub atlas_send : IsSend atlas.the_row
+atlas_send = search (sendable, crosses, tables, book_send, book_sync) depth 30
+
+pub atlas_sync : IsSync atlas.the_row
+atlas_sync = search (sendable, crosses, tables, book_send, book_sync) depth 30
