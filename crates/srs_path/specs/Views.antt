@@ -1,5 +1,5 @@
 -- What limits, findings and events are seen as.
-use Rattle.std.specs.Prelude.{ℕ, ◌+◌, ◌*◌, ◌≤◌, ◌^◌, List, Some, None, if◌then◌else◌, eqb, ltb}
+use Rattle.std.specs.Prelude.{ℕ, ◌+◌, ◌*◌, ◌≤◌, List, Some, None, if◌then◌else◌, eqb, ltb}
 use Rattle.std.specs.declared.option.Option.{Option}
 use Rattle.srs_plane.specs.Regions.{Area}
 use Rattle.srs_path.specs.declared.outcomes.Outcome.{Outcome}

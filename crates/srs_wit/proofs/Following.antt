@@ -1,5 +1,5 @@
 -- How all that one pair links to is added.
-use Rattle.std.proofs.Common.{◌≡◌, ◌≢◌, inl, inr, ℕ, ◌+◌, ◌-◌, true, false, refl, ◌*◌, ◌<◌, ◌≤◌, Bool, List, length, ℤ, pos, ◌-ℤ◌, ◌≤ℤ◌, ◌<ℤ◌, ◌+ℤ◌, neg_ℤ, unsigned_abs, arith, ap, subst, sym, ◌∙◌, get_or}
+use Rattle.std.proofs.Common.{◌≡◌, ◌≢◌, inl, inr, ℕ, ◌+◌, ◌<◌, Bool, List, length, ℤ, pos, ◌-ℤ◌, ◌≤ℤ◌, ◌<ℤ◌, ◌+ℤ◌, neg_ℤ, unsigned_abs, arith, ap, subst, sym, ◌∙◌, get_or}
 use Rattle.std.specs.Prelude.{Contains, AllPairs}
 use Rattle.std.proofs.Math.Decide.{dec_lt}
 use Rattle.std.proofs.lemmas.Int.{ints}
@@ -14,10 +14,10 @@ use Rattle.srs_cell.specs.declared.spans.Span.{Span}
 use Rattle.srs_cell.specs.Spans.{IsCount, pair_from}
 use Rattle.srs_wit.specs.Spans.{ArePairsNarrow, IsWideAmong, pairs_from}
 use Rattle.srs_wit.specs.Listing.{AreTooMany, IsTooWide}
-use Rattle.srs_wit.specs.Halves.{IsUpper, IsUpperOf, IsHeld, count_both}
+use Rattle.srs_wit.specs.Halves.{IsUpper, IsUpperOf, IsHeld}
 use Rattle.srs_wit.specs.declared.runs.Run.{Run}
 use Rattle.srs_wit.specs.Runs.{run_pair, IsRunOf, turned, AddsAll}
-use Rattle.srs_wit.specs.Search.{AreFound, IsTooLong, Adds, Added, Extends, IsClosedAt}
+use Rattle.srs_wit.specs.Search.{AreFound, IsTooLong, Adds, Added, IsClosedAt}
 use Rattle.srs_wit.proofs.Adding.{extends_none, extends_more, adds_keep, upper_narrow, upper_witness, upper_held}
 use Rattle.srs_wit.proofs.Running.{from_run, to_run, turned_pair}
 

@@ -1,5 +1,5 @@
 -- The pairs that one pair links to.
-use Rattle.std.specs.Prelude.{◌≡◌, ℕ, ◌+◌, ◌-◌, Bool, if◌then◌else◌, ℤ, ◌≤ℤ◌, List, map}
+use Rattle.std.specs.Prelude.{◌≡◌, ℕ, ℤ, ◌≤ℤ◌, List, map}
 use Rattle.std.specs.List.{range_with_len}
 use Rattle.srs_num.specs.declared.pairs.V2.{V2}
 use Rattle.srs_map.specs.Step.{pair, IsNarrow}

@@ -1,6 +1,4 @@
-use Rattle.std.proofs.Common.{ap, ◌∙◌, arith}
-use Rattle.std.specs.Prelude.{List}
-use Rattle.srs_num.specs.declared.pairs.V2.{V2}
+use Rattle.std.proofs.Common.{ap, ◌∙◌}
 use Rattle.srs_wit.specs.Runs.{run_pair}
 use Rattle.srs_wit.proofs.Adding.{was_there, was_new}
 use Rattle.srs_wit.proofs.Running.{run_known, run_fresh}

@@ -1,4 +1,3 @@
-use Rattle.std.proofs.Common.{length}
 use Rattle.srs_wit.specs.PairSets.{AreIndexed}
 use Rattle.srs_wit.specs.Runs.{run_pair, AddsAll}
 use Rattle.srs_wit.proofs.pair_set.add_run.Given as goal

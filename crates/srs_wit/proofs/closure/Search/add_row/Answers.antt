@@ -1,7 +1,5 @@
-use Rattle.std.proofs.Common.{◌≡◌, ℕ, ◌<◌, ◌^◌, ℤ, pos, ◌<ℤ◌, arith, subst, sym}
-use Rattle.std.specs.Prelude.{List}
+use Rattle.std.proofs.Common.{ℕ, ◌<◌, ◌^◌, pos, ◌<ℤ◌, arith, subst, sym}
 use Rattle.std.proofs.lemmas.Int.{ints}
-use Rattle.srs_num.specs.declared.pairs.V2.{V2}
 use Rattle.srs_num.specs.Points.{IsWithin}
 use Rattle.srs_num.proofs.Ranges.{within_turned}
 use Rattle.srs_map.specs.Step.{IsNarrow}
