@@ -71,7 +71,7 @@ module _ (R : Area) (T : Tree) where
   without-map path [] = refl
   without-map path (p ∷ q) =
       elim (path_eq path p) as (λ b. cond (not b) (cell_at R T p ∷ without path (map (cell_at R T) q)) (without path (map (cell_at R T) q))
-          ≡ map (cell_at R T) (cond (not b) (p ∷ filter (other path) q) (filter (other path) q))) [
+      ≡ map (cell_at R T) (cond (not b) (p ∷ filter (other path) q) (filter (other path) q))) [
         | true ↦ without-map path q
         | false ↦ ap (λ (cs : List WaitingCell). cell_at R T p ∷ cs) (without-map path q)
       ]

@@ -294,17 +294,19 @@ module _ {X : Type 0} (rows after : List (List (List X))) (x : X) where
   pub pushed : (n : ℕ) → AreRows rows n → n < 2 ^ 48 → after ≡ written_in rows n x → AreRows after (n + 1) × (take (n + 1) (items_of after) ≡ take n (items_of rows) ++ x ∷ [])
   pushed n even few is =
       let within = even.within in
-      let kept : AreRows (written_in rows n x) (n + 1) = rows_after rows n n even (omega arith) x (n + 1) (longer (items_of rows) x n within) (omega (arith, few)) in
-      (subst (λ (u : List (List (List X))). AreRows u (n + 1)) (sym is) kept,
-      ap (λ (u : List (List (List X))). take (n + 1) (items_of u)) is ∙ ap (take (n + 1)) (items_after rows n n even (omega arith) x) ∙ take-appended (items_of rows) x n within)
+      let kept : AreRows (written_in rows n x) (n + 1) = rows_after rows n n even (omega arith) x (n + 1) (longer (items_of rows) x n within) (omega (arith, few)) in (
+        subst (λ (u : List (List (List X))). AreRows u (n + 1)) (sym is) kept,
+        ap (λ (u : List (List (List X))). take (n + 1) (items_of u)) is ∙ ap (take (n + 1)) (items_after rows n n even (omega arith) x) ∙ take-appended (items_of rows) x n within,
+      )
 
   pub changed : (n i : ℕ) → AreRows rows n → i < n → after ≡ written_in rows i x → AreRows after n × (take n (items_of after) ≡ slice_set (take n (items_of rows)) i x)
   changed n i even l is =
       let within = even.within in
       let same = length-written (items_of rows) i x (omega (arith, l, within)) in
-      let kept : AreRows (written_in rows i x) n = rows_after rows i n even (omega (arith, l)) x n (omega (arith, within, same)) even.most in
-      (subst (λ (u : List (List (List X))). AreRows u n) (sym is) kept,
-      ap (λ (u : List (List (List X))). take n (items_of u)) is ∙ ap (take n) (items_after rows i n even (omega (arith, l)) x) ∙ take-changed (items_of rows) x n i l within)
+      let kept : AreRows (written_in rows i x) n = rows_after rows i n even (omega (arith, l)) x n (omega (arith, within, same)) even.most in (
+        subst (λ (u : List (List (List X))). AreRows u n) (sym is) kept,
+        ap (λ (u : List (List (List X))). take n (items_of u)) is ∙ ap (take n) (items_after rows i n even (omega (arith, l)) x) ∙ take-changed (items_of rows) x n i l within,
+      )
 
 -- an item that is read, by the row, the block and the place where it stands
 module _ {X : Type 0} (rows : List (List (List X))) (n i : ℕ) (even : AreRows rows n) (within : i < length (take n (items_of rows))) where

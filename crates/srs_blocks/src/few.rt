@@ -19,6 +19,7 @@ pub(crate) struct Few<T> {
 
 // A block of items, and a row of blocks.
 pub(crate) type Block<T> = Few<T>;
+
 pub(crate) type Row<T> = Few<Shared<Block<T>>>;
 
 impl<T> Model for Few<T> {
@@ -119,7 +120,8 @@ impl<T: Share + Drop> Row<T> {
         ensures err { OnErr result (self.new ≡ self.old) }
     {
         if block == self.items.len() {
-            self.items.push(Shared::new(alloc, Few::one(alloc, item)?)?)?;
+            self.items
+                .push(Shared::new(alloc, Few::one(alloc, item)?)?)?;
             Ok(())
         } else {
             self.items[block].write(alloc, i, item)?;

@@ -15,6 +15,7 @@ use Rattle.srs_turn.specs.Prefixes.{Begins}
 use Rattle.srs_turn.proofs.PrefixLemmas.{begins_trans}
 use Rattle.srs_tree.specs.Tree.{History, outcome_at, IsCellOf}
 use Rattle.srs_tree.specs.Legality.{IsLegal}
+use Rattle.srs_tree.specs.declared.queries.Said.{Said}
 use Rattle.srs_tree.specs.Rounds.{cells_of, upto, row_of, IsPlanned}
 use Rattle.srs_tree.specs.Snapshots.{Snapshot, StandsFor}
 use Rattle.srs_tree.proofs.Bounded.{last_at_depth, upto_within, depth_within, by_planned, count_some}
@@ -73,17 +74,17 @@ module _ (terms : Terms) (L : Budget) (plan : terms.plan ≡ Some L) (budget : I
 
 module _ (terms : Terms) (L : Budget) (plan : terms.plan ≡ Some L) where
   -- where the rows down to the greatest depth are done, the history is whole
-  pub ran : (S J : History) (v : Snapshot) (Root : Area) → Root ≡ terms.root → AreRowsDone S (L.depth + 1) → Begins S J → IsLawful terms J → StandsFor terms.root J v → IsRun Root L (record { version = v; journal = J; transcripts = [] })
-  ran S J v Root e rows b lawful stands =
+  pub ran : (S J : History) (v : Snapshot) (told : List (List Said)) (Root : Area) → told ≡ [] → Root ≡ terms.root → AreRowsDone S (L.depth + 1) → Begins S J → IsLawful terms J → StandsFor terms.root J v → IsRun Root L (record { version = v; journal = J; transcripts = told })
+  ran S J v told Root silent e rows b lawful stands =
       let planned : IsPlanned terms.root L J = lawful.planned L plan in
       let each : (path : List Side) → IsCellOf (outcome_at J) path → IsSome (outcome_at J path) = λ path cell.
       let l = depth_within terms.root L J (by_planned terms.root L J planned) path cell in
       rows_later terms.root terms.w S J (L.depth + 1) b lawful.legal rows path cell (omega (arith, l)) in
-      subst (λ (R : Area). IsRun R L (record { version = v; journal = J })) (sym e) (record {
+      subst (λ (R : Area). IsRun R L (record { version = v; journal = J; transcripts = told })) (sym e) (record {
         whole = IsWhole-planned terms.root L J planned each;
         in_rounds = IsInRounds-planned terms.root L J planned;
         stands = stands;
-        silent = refl;
+        silent = silent;
       })
 
 -- where no cell is of round k and the rows above it are done, all cells have their events
@@ -96,7 +97,7 @@ none_left Root W H k legal none rows = record { each = each }
       | no l ↦
           let long : length (take k path) ≡ k = length-take-le k path (omega (arith, l)) in
           let above : IsCellOf (outcome_at H) (take k path) =
-            prefix_cell (outcome_at H) (cell_of_outcome Root W H legal) (take k path) (drop k path) (subst (IsCellOf (outcome_at H)) (sym (take-append-drop k path)) cell) in
+          prefix_cell (outcome_at H) (cell_of_outcome Root W H legal) (take k path) (drop k path) (subst (IsCellOf (outcome_at H)) (sym (take-append-drop k path)) cell) in
           let some = count_some (λ (p : List Side). length p == k) (cells_of H) (take k path) ((cells_are Root W H legal).from (take k path) above) ((Decides-eqb (length (take k path)) k).1 long) in
           absurd (omega (arith, some, none))
     ]

@@ -61,9 +61,7 @@ fn all_rounds<R: Threads + Wait + Sync, G: Gate>(
     ensures rows { OnOk result (AreRowsDone pass.new.seen (limits.now.depth + 1)) }
 {
     for round in 0..limits.depth() + 1 {
-        if next_round(
-            rt, alloc, atlas, pass, limits, round, workers, script, gate,
-        )? {
+        if next_round(rt, alloc, atlas, pass, limits, round, workers, script, gate)? {
             return Ok(());
         }
     }

@@ -28,13 +28,13 @@ sized_decided r =
     same_decided ((IsPoint r × IsWithin MOST_DENOMINATOR r.d) × (IsWithin MOST_NUMERATOR r.p × IsWithin MOST_NUMERATOR r.q)) (IsPtSized r)
     (λ s. record { is_point = s.0.0; d_range = s.0.1; p_range = s.1.0; q_range = s.1.1 }) (λ s. ((s.is_point, s.d_range), (s.p_range, s.q_range)))
     (both_decided (IsPoint r × IsWithin MOST_DENOMINATOR r.d) (IsWithin MOST_NUMERATOR r.p × IsWithin MOST_NUMERATOR r.q)
-      (both_decided (IsPoint r) (IsWithin MOST_DENOMINATOR r.d) (int_le_decided (pos 1) r.d) (within_decided MOST_DENOMINATOR r.d))
-      (both_decided (IsWithin MOST_NUMERATOR r.p) (IsWithin MOST_NUMERATOR r.q) (within_decided MOST_NUMERATOR r.p) (within_decided MOST_NUMERATOR r.q)))
+    (both_decided (IsPoint r) (IsWithin MOST_DENOMINATOR r.d) (int_le_decided (pos 1) r.d) (within_decided MOST_DENOMINATOR r.d))
+    (both_decided (IsWithin MOST_NUMERATOR r.p) (IsWithin MOST_NUMERATOR r.q) (within_decided MOST_NUMERATOR r.p) (within_decided MOST_NUMERATOR r.q)))
 
 place_decided : (line : List ℕ) → ((r : Place) × SaysPlace r line) ⊎ ((slip : Slip) × IsPlaceSlip line slip)
 place_decided line =
     elim (three_decided (codes "point") line) [
-      | inl n ↦ 
+      | inl n ↦
           let r : Place = record { p = n.0; q = n.1; d = n.2 } in
           elim (sized_decided r) [ inl sized ↦ inl (r, (n.3, sized)) | inr out ↦ inr (Range, inr (r, n.3, out, refl)) ]
       | inr f ↦ inr (f.0, inl f.1)
@@ -45,7 +45,7 @@ asked_decided r z n =
     same_decided ((IsPtSized r × IsNear r) × (IsNarrow z × (n ≤ 100000))) (IsOrbitAsked r z n)
     (λ o. record { sized = o.0.0; near = o.0.1; narrow = o.1.0; few = o.1.1 }) (λ o. ((o.sized, o.near), (o.narrow, o.few)))
     (both_decided (IsPtSized r × IsNear r) (IsNarrow z × (n ≤ 100000)) (both_decided (IsPtSized r) (IsNear r) (sized_decided r) (near_decided r))
-      (both_decided (IsNarrow z) (n ≤ 100000) (narrow_decided z) (le_decided n 100000)))
+    (both_decided (IsNarrow z) (n ≤ 100000) (narrow_decided z) (le_decided n 100000)))
 
 -- an orbit and its number of steps
 abbrev OrbitSaid : List ℕ → Type 0
@@ -57,7 +57,7 @@ other_steps r z m k n e bar asked f = let same : n ≡ k = cc in bar (rw same at
 orbit_decided : (line : List ℕ) → OrbitSaid line ⊎ ((slip : Slip) × IsOrbitSlip line slip)
 orbit_decided line =
     elim (six_decided (codes "orbit") line) [
-      | inl s ↦ 
+      | inl s ↦
           let r : Place = record { p = s.0; q = s.1; d = s.2 } in
           let z : V2 = record { a = s.3; b = s.4 } in
           elim (natural s.5) [
@@ -111,7 +111,7 @@ takes_decided : (s : Questions) → IsGrowing s.ring.left s.ring.vertices → (l
 takes_decided s g line =
     elim (eq_decided s.ring.left 0) [
       | inl zero ↦ elim (question_decided s line) [ inl t ↦ inl (t.0, inr (zero, t.1)) | inr f ↦ inr (f.0, f.1, inr (zero, f.2)) ]
-      | inr some ↦ 
+      | inr some ↦
           let more : 0 < s.ring.left = omega (arith, some) in
           elim (corner_decided s g more line) [ inl t ↦ inl (t.0, inl (more, t.1)) | inr f ↦ inr f ]
     ]

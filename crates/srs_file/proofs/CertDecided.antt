@@ -62,8 +62,8 @@ budget_decided b =
     (λ p. record { depth = p.0.0; some_cell = p.0.1.0; cells = p.0.1.1; some_wit = p.1.0.0; wits = p.1.0.1; product = p.1.1 })
     (λ p. ((p.depth, (p.some_cell, p.cells)), ((p.some_wit, p.wits), p.product)))
     (both_decided (depth × cells) (wits × product)
-      (both_decided depth cells (le_decided b.depth MOST_DEPTH) (both_decided (1 ≤ b.cells) (b.cells ≤ MOST_CELLS) (le_decided 1 b.cells) (le_decided b.cells MOST_CELLS)))
-      (both_decided wits product (both_decided (1 ≤ b.wits) (b.wits ≤ MOST_WITNESSES) (le_decided 1 b.wits) (le_decided b.wits MOST_WITNESSES)) (le_decided (b.wits * b.cells) MOST_PRODUCT)))
+    (both_decided depth cells (le_decided b.depth MOST_DEPTH) (both_decided (1 ≤ b.cells) (b.cells ≤ MOST_CELLS) (le_decided 1 b.cells) (le_decided b.cells MOST_CELLS)))
+    (both_decided wits product (both_decided (1 ≤ b.wits) (b.wits ≤ MOST_WITNESSES) (le_decided 1 b.wits) (le_decided b.wits MOST_WITNESSES)) (le_decided (b.wits * b.cells) MOST_PRODUCT)))
 
 -- three numbers are limits, or none
 abbrev Limiting : ℤ → ℤ → ℤ → Type 0
@@ -81,7 +81,7 @@ limits_told d c w =
     elim (natural d) [
       | inl m ↦ elim (natural c) [
         | inl n ↦ elim (natural w) [
-          | inl k ↦ 
+          | inl k ↦
               let b : Budget = record { depth = m.0; cells = n.0; wits = k.0 } in
               elim (budget_decided b) [
                 | inl is ↦ inl (b, is, m.1, n.1, k.1)

@@ -261,8 +261,7 @@ live_text_is_one one vs ws a b G H text lg lh t u =
     let certs : cert vs a G text lg t ≡ cert ws b H text lh u =
     one (cert_text (cert vs a G text lg t)) (cert vs a G text lg t) (cert ws b H text lh u) (record { certificate = t.certificate; spelled = refl }) (record { certificate = u.certificate; spelled = rest.1 }) in
     let lines : map event_line G ≡ map event_line H = front_once (map event_line G) (map event_line H) (codes "end") rest.0 in
-    let T = outcome_at (cert vs a G text lg t).events in
-    (
+    let T = outcome_at (cert vs a G text lg t).events in (
       ap (λ (c : CertView). c.vertices) certs,
       ap (λ (c : CertView). c.limits) certs,
       history_once T G H (has vs a G text lg t) (subst (λ (c : CertView). Has (outcome_at c.events) H) (sym certs) (has ws b H text lh u)) lines,

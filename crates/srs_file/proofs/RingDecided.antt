@@ -34,16 +34,16 @@ near_decided r =
     same_decided ((low ≤ℤ r.p × (r.p ≤ℤ high)) × (low ≤ℤ r.q × (r.q ≤ℤ high))) (IsNear r)
     (λ n. record { p_low = n.0.0; p_high = n.0.1; q_low = n.1.0; q_high = n.1.1 }) (λ n. ((n.p_low, n.p_high), (n.q_low, n.q_high)))
     (both_decided (low ≤ℤ r.p × (r.p ≤ℤ high)) (low ≤ℤ r.q × (r.q ≤ℤ high))
-      (both_decided (low ≤ℤ r.p) (r.p ≤ℤ high) (int_le_decided low r.p) (int_le_decided r.p high))
-      (both_decided (low ≤ℤ r.q) (r.q ≤ℤ high) (int_le_decided low r.q) (int_le_decided r.q high)))
+    (both_decided (low ≤ℤ r.p) (r.p ≤ℤ high) (int_le_decided low r.p) (int_le_decided r.p high))
+    (both_decided (low ≤ℤ r.q) (r.q ≤ℤ high) (int_le_decided low r.q) (int_le_decided r.q high)))
 
 placed_decided : (v : Vertex) → Decided (IsPlaced v)
 placed_decided v =
     same_decided ((pos 1 ≤ℤ v.d × (v.d ≤ℤ MOST_VERTEX_DENOMINATOR)) × IsNear (point_of v)) (IsPlaced v)
     (λ p. record { small = record { d_low = p.0.0; d_high = p.0.1 }; near = p.1 }) (λ p. ((p.small.d_low, p.small.d_high), p.near))
     (both_decided (pos 1 ≤ℤ v.d × (v.d ≤ℤ MOST_VERTEX_DENOMINATOR)) (IsNear (point_of v))
-      (both_decided (pos 1 ≤ℤ v.d) (v.d ≤ℤ MOST_VERTEX_DENOMINATOR) (int_le_decided (pos 1) v.d) (int_le_decided v.d MOST_VERTEX_DENOMINATOR))
-      (near_decided (point_of v)))
+    (both_decided (pos 1 ≤ℤ v.d) (v.d ≤ℤ MOST_VERTEX_DENOMINATOR) (int_le_decided (pos 1) v.d) (int_le_decided v.d MOST_VERTEX_DENOMINATOR))
+    (near_decided (point_of v)))
 
 -- no kind's word begins the line
 no_kind : (line : List ℕ) → ¬ (HasWord (codes "ge") line) → ¬ (HasWord (codes "gt") line) → (kind : Kind) → HasWord (kind_word kind) line → ⊥
@@ -64,7 +64,7 @@ vertex_decided : (line : List ℕ) → ((v : Vertex) × SaysVertex v line) ⊎ (
 vertex_decided line =
     elim (kind_decided line) [
       | inl k ↦ elim (three_decided (kind_word k.0) line) [
-        | inl s ↦ 
+        | inl s ↦
             let v : Vertex = record { p = s.0; q = s.1; d = s.2; kind = k.0 } in
             elim (placed_decided v) [ inl placed ↦ inl (v, (s.3, placed)) | inr out ↦ inr (Range, inr (inr (v, s.3, out, refl))) ]
         | inr f ↦ inr (f.0, inr (inl (k.0, k.1, f.1)))
@@ -84,8 +84,8 @@ off_decided vs i j =
     same_decided (((j < length vs) × (j ≢ i)) × (j ≢ (i + 1) % length vs)) (IsOffEdge vs i j)
     (λ o. record { there = o.0.0; not_start = o.0.1; not_end = o.1 }) (λ o. ((o.there, o.not_start), o.not_end))
     (both_decided ((j < length vs) × (j ≢ i)) (j ≢ (i + 1) % length vs)
-      (both_decided (j < length vs) (j ≢ i) (lt_decided j (length vs)) (not_decided (j ≡ i) (eq_decided j i)))
-      (not_decided (j ≡ (i + 1) % length vs) (eq_decided j ((i + 1) % length vs))))
+    (both_decided (j < length vs) (j ≢ i) (lt_decided j (length vs)) (not_decided (j ≡ i) (eq_decided j i)))
+    (not_decided (j ≡ (i + 1) % length vs) (eq_decided j ((i + 1) % length vs))))
 
 -- the vertices below n are to the left of the edge from vertex i
 abbrev AreLeft : List Vertex → ℕ → ℕ → Type 0
@@ -146,7 +146,7 @@ pub ring_decided : (r : RingView) → IsGrowing r.left r.vertices → 0 < r.left
 ring_decided r g more line =
     elim (vertex_decided line) [
       | inl v ↦ elim (eq_decided r.left 1) [
-        | inl last ↦ 
+        | inl last ↦
             let vs = r.vertices ++ v.0 ∷ [] in
             let size : length vs ≡ length r.vertices + 1 = length-append r.vertices (v.0 ∷ []) in
             let bounds = g.counted more in

@@ -85,12 +85,12 @@ no_negative (negsuc n) low none = omega (arith, ints)
 entry_decided : (leaf : LeafView) (line : List ℕ) → Goes (TakesEntry leaf line) (SlipsEntry leaf line)
 entry_decided leaf line =
     elim (three_decided (codes "w") line) [
-      | inl s ↦ 
+      | inl s ↦
           let w : V2 = record { a = s.0; b = s.1 } in
           elim (entry_in_range w s.2) [
             | inl range ↦ elim (natural s.2) [
               | inl n ↦ elim (follows_decided leaf.entries w) [
-                | inl follows ↦ 
+                | inl follows ↦
                     let says : SaysEntry w s.2 line = (s.3, range) in
                     inl (record { left = leaf.left - 1; entries = leaf.entries ++ (w, n.0) ∷ [] }, (w, n.0, rw n.1 at says, follows, refl))
                 | inr bar ↦ inr (Order, 0, inr (w, s.2, (s.3, range), bar, refl, refl))
@@ -128,8 +128,8 @@ form_decided h =
     same_decided ((IsWithin MOST_COEFFICIENT h.a × IsWithin MOST_COEFFICIENT h.b) × IsWithin MOST_COEFFICIENT h.c) (IsFormSized h)
     (λ f. record { a_range = f.0.0; b_range = f.0.1; c_range = f.1 }) (λ f. ((f.a_range, f.b_range), f.c_range))
     (both_decided (IsWithin MOST_COEFFICIENT h.a × IsWithin MOST_COEFFICIENT h.b) (IsWithin MOST_COEFFICIENT h.c)
-      (both_decided (IsWithin MOST_COEFFICIENT h.a) (IsWithin MOST_COEFFICIENT h.b) (within_decided MOST_COEFFICIENT h.a) (within_decided MOST_COEFFICIENT h.b))
-      (within_decided MOST_COEFFICIENT h.c))
+    (both_decided (IsWithin MOST_COEFFICIENT h.a) (IsWithin MOST_COEFFICIENT h.b) (within_decided MOST_COEFFICIENT h.a) (within_decided MOST_COEFFICIENT h.b))
+    (within_decided MOST_COEFFICIENT h.c))
 
 divide_decided : (s : Tree) (h : LinearForm) → Next s → Goes (Divides s h) (SlipsDivide s)
 divide_decided s h next =
@@ -154,7 +154,7 @@ cut_by_decided s h next =
 cut_decided : (s : Tree) (line : List ℕ) → Next s → Goes (StepsCut s line) (SlipsCut s line)
 cut_decided s line next =
     elim (three_decided (codes "cut") line) [
-      | inl n ↦ 
+      | inl n ↦
           let h : LinearForm = record { a = n.0; b = n.1; c = n.2 } in
           elim (cut_by_decided s h next) [ inl t ↦ inl (t.0, (h, n.3, t.1)) | inr f ↦ inr (f.0, f.1, inr (h, n.3, f.2)) ]
       | inr f ↦ inr (f.0, 0, inl (f.1, refl))
@@ -172,8 +172,8 @@ counts_decided W n entries =
     same_decided (((1 ≤ length entries) × (length entries ≤ W)) × (n ≡ pos (length entries))) (Counts W n entries)
     (λ c. record { some = c.0.0; few = c.0.1; is = c.1 }) (λ c. ((c.some, c.few), c.is))
     (both_decided ((1 ≤ length entries) × (length entries ≤ W)) (n ≡ pos (length entries))
-      (both_decided (1 ≤ length entries) (length entries ≤ W) (le_decided 1 (length entries)) (le_decided (length entries) W))
-      (int_eq_decided n (pos (length entries))))
+    (both_decided (1 ≤ length entries) (length entries ≤ W) (le_decided 1 (length entries)) (le_decided (length entries) W))
+    (int_eq_decided n (pos (length entries))))
 
 all_decided : (P : ℤ → Type 0) → ((z : ℤ) → Decided (P z)) → (zs : List ℤ) → Decided (All P zs)
 all_decided P each [] = inl (All-nil P)
@@ -199,8 +199,8 @@ cycle_decided c =
     same_decided (((1 ≤ length c) × (length c ≤ MOST_WITNESSES)) × (All (IsWithin MOST_ENTRY) c × (first ≢ origin))) (IsCycle c)
     (λ i. record { some = i.0.0; short = i.0.1; narrow = i.1.0; not_zero = i.1.1 }) (λ i. ((i.some, i.short), (i.narrow, i.not_zero)))
     (both_decided ((1 ≤ length c) × (length c ≤ MOST_WITNESSES)) (All (IsWithin MOST_ENTRY) c × (first ≢ origin))
-      (both_decided (1 ≤ length c) (length c ≤ MOST_WITNESSES) (le_decided 1 (length c)) (le_decided (length c) MOST_WITNESSES))
-      (both_decided (All (IsWithin MOST_ENTRY) c) (first ≢ origin) (all_decided (IsWithin MOST_ENTRY) (within_decided MOST_ENTRY) c) (not_decided (first ≡ origin) (pair_decided first origin))))
+    (both_decided (1 ≤ length c) (length c ≤ MOST_WITNESSES) (le_decided 1 (length c)) (le_decided (length c) MOST_WITNESSES))
+    (both_decided (All (IsWithin MOST_ENTRY) c) (first ≢ origin) (all_decided (IsWithin MOST_ENTRY) (within_decided MOST_ENTRY) c) (not_decided (first ≡ origin) (pair_decided first origin))))
 
 out_decided : (s : Tree) (line : List ℕ) → Next s → Goes (StepsOut s line) (SlipsOut s line)
 out_decided s line next =
@@ -278,7 +278,7 @@ line_decided s line some =
     let next = next_of s.pending some in
     elim (eq_decided s.leaf.left 0) [
       | inl zero ↦ elim (node_decided s line next) [ inl t ↦ inl (t.0, inr (zero, t.1)) | inr f ↦ inr (f.0, f.1, inr (zero, f.2)) ]
-      | inr left ↦ 
+      | inr left ↦
           let more : 0 < s.leaf.left = omega (arith, left) in
           elim (node_line_decided s line next more) [ inl t ↦ inl (t.0, inl (more, t.1)) | inr f ↦ inr (f.0, f.1, inl (more, f.2)) ]
     ]

@@ -11,8 +11,7 @@ ghost use Rattle.srs_file.specs.AskReading.{ask_start, EndsHere, StepsAsking, Re
 use crate::{CertReader, Questions};
 use srs_cert::Cert;
 use srs_line::{
-    FileErr, LineErr, LineMachine, Slip, never_both, one_slip, read_lines, read_once,
-    read_or_slips,
+    FileErr, LineErr, LineMachine, Slip, never_both, one_slip, read_lines, read_once, read_or_slips,
 };
 use srs_tree::Queries;
 use std::alloc::Global;

@@ -81,9 +81,7 @@ pub fn read_polygon(alloc: Global, text: &[u8]) -> Result<(Vertices, Cell), File
     let mut reader = PolygonReader::new(alloc);
     read_lines(&mut reader, text)?;
     let (vertices, region) = reader.outline.into_parts();
-    let Some(region) = region else {
-        unreachable!()
-    };
+    let Some(region) = region else { unreachable!() };
     Ok((vertices, inhabited(alloc, region)?))
 }
 

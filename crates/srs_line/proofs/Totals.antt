@@ -23,9 +23,6 @@ first_line (c ∷ text) =
 shorter : (rest line more : List ℕ) (n : ℕ) → IsLineOf rest line more → length rest ≤ suc n → length more ≤ n
 shorter rest line more n l le = omega (arith, ap length l.whole, length-append line (10 ∷ more))
 
-
-
-
 module _ {S : Type 0} (Steps : S → List ℕ → S → Type 0) (Slips : S → List ℕ → Slip → ℕ → Type 0) (IsEnd : S → Type 0)
     (start : S) (total : IsTotal Steps Slips IsEnd start) (text : List ℕ) where
   abbrev Answer : Type 0

@@ -62,7 +62,10 @@ fn first_other(limits: &Limits, rows: &[(u32, u64, u64, Option<Last>)]) -> Optio
 #[test]
 fn limits(rt: HostRuntime) -> Result<(), Fail> {
     let limits = Limits::new(2, 64, 16).ok_or("they are limits")?;
-    assert_eq!(rt; (limits.depth(), limits.cells(), limits.wits()), (2, 64, 16));
+    assert_eq!(rt;
+        (limits.depth(), limits.cells(), limits.wits()),
+        (2, 64, 16)
+    );
     assert_eq!(rt; first_other(&limits, &SPENT), None);
     assert!(rt; Limits::new(48, 65536, 64).is_some());
     assert!(rt; Limits::new(48, 65536, 65).is_none() && Limits::new(49, 1, 1).is_none());

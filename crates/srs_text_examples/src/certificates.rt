@@ -143,7 +143,8 @@ fn question_sizes(alloc: Global, text: &str) -> Result<(u64, u64), Fail> {
     }
 }
 
-const QUESTIONS: &str = "end\npoint 1 -1 16\nregion 3\nge 0 0 1\nge 1 0 8\nge 0 1 8\norbit 1 -1 4 1 1 100\nend\n";
+const QUESTIONS: &str =
+    "end\npoint 1 -1 16\nregion 3\nge 0 0 1\nge 1 0 8\nge 0 1 8\norbit 1 -1 4 1 1 100\nend\n";
 
 #[test]
 fn certificate_and_questions(rt: HostRuntime) -> Result<(), Fail> {

@@ -229,6 +229,9 @@ fn words(alloc: Global) -> Result<Bytes, NoMemory> {
 #[test]
 fn words_said(rt: HostRuntime) -> Result<(), Fail> {
     let text = words(rt.alloc())?;
-    assert_eq!(rt; text.as_slice(), b"line fall -1 0 137438953472 end".as_slice());
+    assert_eq!(rt;
+        text.as_slice(),
+        b"line fall -1 0 137438953472 end".as_slice()
+    );
     Ok(())
 }

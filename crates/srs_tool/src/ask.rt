@@ -42,7 +42,10 @@ pub fn ask(alloc: Global, input: &[u8]) -> Result<Output, NoMemory>
     match build(alloc, &cert)? {
         Built::Valid(version, _) => {
             let text = replies(alloc, &cert, &version, &queries)?;
-            Ok(Output { status: Status::Done, text })
+            Ok(Output {
+                status: Status::Done,
+                text,
+            })
         }
         Built::Bad(line, fault) => bad(alloc, line, &fault),
     }
@@ -151,12 +154,7 @@ fn leaf_answer(cert: &Cert, path: Path) -> Answer<'_>
 }
 
 // Appends the line of the answers that the polygon meets, in whichever certificate the version was built of.
-fn put_polygon(
-    alloc: Global,
-    text: &mut Bytes,
-    version: &Version,
-    q: &Cell,
-) -> Result<(), NoMemory>
+fn put_polygon(alloc: Global, text: &mut Bytes, version: &Version, q: &Cell) -> Result<(), NoMemory>
     requires few { length q.now ≤ 16 }
     ensures { (c : CertView) → IsBuilt c version.now →
         OnOk result (AddsReply c (AsksPolygon q.now) text.old text.new) }

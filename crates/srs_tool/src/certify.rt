@@ -25,7 +25,10 @@ pub fn certify(alloc: Global, limits: &Limits, input: &[u8]) -> Result<Output, N
     match read_polygon(alloc, input) {
         Ok((vertices, cell)) => {
             let text = certificate(alloc, limits, &vertices, cell)?;
-            Ok(Output { status: Status::Done, text })
+            Ok(Output {
+                status: Status::Done,
+                text,
+            })
         }
         Err(FileErr::At(line, slip)) => refused(alloc, line, slip),
         Err(FileErr::NoMemory) => Err(NoMemory),

@@ -17,7 +17,10 @@ pub fn valid(alloc: Global, counts: &Counts) -> Result<Output, NoMemory>
     ensures { IfOk result (λ o. (o.status ≡ Status.Done) × (o.text ≡ valid_line counts.now)) }
 {
     match valid_line(alloc, counts) {
-        Ok(text) => Ok(Output { status: Status::Done, text }),
+        Ok(text) => Ok(Output {
+            status: Status::Done,
+            text,
+        }),
         Err(_) => Err(NoMemory),
     }
 }
@@ -27,7 +30,10 @@ pub fn bad(alloc: Global, line: u32, fault: &Fault) -> Result<Output, NoMemory>
     ensures { IfOk result (λ o. (o.status ≡ Status.Bad) × (o.text ≡ fault_line line fault.now)) }
 {
     match fault_line(alloc, line, fault) {
-        Ok(text) => Ok(Output { status: Status::Bad, text }),
+        Ok(text) => Ok(Output {
+            status: Status::Bad,
+            text,
+        }),
         Err(_) => Err(NoMemory),
     }
 }
@@ -37,7 +43,10 @@ pub fn refused(alloc: Global, line: u32, slip: Slip) -> Result<Output, NoMemory>
     ensures { IfOk result (λ o. (o.status ≡ Status.Refused) × (o.text ≡ refusal_line line slip)) }
 {
     match refusal_line(alloc, line, slip) {
-        Ok(text) => Ok(Output { status: Status::Refused, text }),
+        Ok(text) => Ok(Output {
+            status: Status::Refused,
+            text,
+        }),
         Err(_) => Err(NoMemory),
     }
 }

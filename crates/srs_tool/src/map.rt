@@ -35,7 +35,10 @@ pub fn draw(alloc: Global, columns: u32, rows: u32, input: &[u8]) -> Result<Outp
     match build(alloc, &cert)? {
         Built::Valid(version, _) => {
             let text = map_of(alloc, &cert, &version, columns, rows)?;
-            Ok(Output { status: Status::Done, text })
+            Ok(Output {
+                status: Status::Done,
+                text,
+            })
         }
         Built::Bad(line, fault) => bad(alloc, line, &fault),
     }

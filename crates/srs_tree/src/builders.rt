@@ -59,10 +59,8 @@ impl TreeBuilder {
         requires { IsShortCut path f.outcome }
         ensures may { OnOk result (MayEnter self.old path f) }
         ensures entered { OnOk result (self.new ≡ with_entry self.old path f.outcome) }
-        ensures parts {
-            IfOk result (λ parts.
-            cells_from parts ≡ map_list (cell_in self.new) (parts_by path f.outcome))
-        }
+        ensures parts { IfOk result (λ parts.
+            cells_from parts ≡ map_list (cell_in self.new) (parts_by path f.outcome)) }
         ensures refused { IfErr result (λ e. IsTreeErr self.old path f e) }
         ensures same { OnErr result (self.new ≡ self.old) }
     {

@@ -19,11 +19,7 @@ use std::alloc::Global;
 use std::sync::Arc;
 
 // The place of the open cell at the path, and the finding, if it is of this cell's region.
-pub(crate) fn place_for(
-    nodes: &Nodes,
-    path: &Path,
-    f: Finding,
-) -> Result<(usize, Finding), TreeErr>
+pub(crate) fn place_for(nodes: &Nodes, path: &Path, f: Finding) -> Result<(usize, Finding), TreeErr>
     requires { AreSpots nodes.now }
     ensures place { IfOk result (λ p. IsOpenAt nodes.now path.now f.region p.0) }
     ensures finding { IfOk result (λ p. p.1 ≡ f) }
@@ -76,10 +72,8 @@ pub(crate) fn enter(
     requires there { IsOpenAt nodes.old path.now f.region i }
     requires short { IsShortCut path.now f.outcome }
     ensures grown { OnOk result (HasGrown nodes.old nodes.new path.now f) }
-    ensures parts {
-        IfOk result (λ added.
-        cells_from added.parts ≡ map (cell_in (snapshot_of nodes.new)) (parts_by path.now f.outcome))
-    }
+    ensures parts { IfOk result (λ added.
+        cells_from added.parts ≡ map (cell_in (snapshot_of nodes.new)) (parts_by path.now f.outcome)) }
     ensures outcome { IfOk result (λ added. arc_value added.outcome ≡ f.outcome) }
     ensures err { IfErr result (λ g. g ≡ f) }
     ensures same { OnErr result (nodes.new ≡ nodes.old) }
@@ -93,16 +87,12 @@ pub(crate) fn enter(
 fn enter_at(nodes: &mut Nodes, alloc: Global, i: usize, f: Finding) -> Result<Added, Finding>
     requires there { i < length nodes.old }
     requires may { (x : Spot) → slice_get nodes.old i ≡ Some x → IsReadyFor x f }
-    ensures grown {
-        OnOk result ((x : Spot) → slice_get nodes.old i ≡ Some x
-        → nodes.new ≡ grown nodes.old i x f.outcome)
-    }
+    ensures grown { OnOk result ((x : Spot) → slice_get nodes.old i ≡ Some x
+        → nodes.new ≡ grown nodes.old i x f.outcome) }
     ensures few { OnOk result (length nodes.old ≤ 2 ^ 48) }
     ensures sound { OnOk result (IsSound f.region f.w f.outcome) }
-    ensures parts {
-        IfOk result (λ added. (x : Spot) → slice_get nodes.old i ≡ Some x
-        → cells_from added.parts ≡ map waiting_of (parts_from x f.outcome))
-    }
+    ensures parts { IfOk result (λ added. (x : Spot) → slice_get nodes.old i ≡ Some x
+        → cells_from added.parts ≡ map waiting_of (parts_from x f.outcome)) }
     ensures outcome { IfOk result (λ added. arc_value added.outcome ≡ f.outcome) }
     ensures err { IfErr result (λ g. g ≡ f) }
     ensures same { OnErr result (nodes.new ≡ nodes.old) }
@@ -135,11 +125,9 @@ fn settle(
     parts: Option<(Node, Node)>,
 ) -> Result<(), NoMemory>
     requires { i < length nodes.old }
-    ensures ok {
-        OnOk result ((x : Spot) → slice_get nodes.old i ≡ Some x
+    ensures ok { OnOk result ((x : Spot) → slice_get nodes.old i ≡ Some x
         → spots_from parts ≡ parts_from x (arc_value outcome)
-        → nodes.new ≡ grown nodes.old i x (arc_value outcome))
-    }
+        → nodes.new ≡ grown nodes.old i x (arc_value outcome)) }
     ensures err { OnErr result (nodes.new ≡ nodes.old) }
 {
     let place = nodes.len();
@@ -155,11 +143,7 @@ fn settle(
 }
 
 // The parts come behind the last cell. An `Err` is want of memory, and leaves the cells as they were.
-fn append(
-    nodes: &mut Nodes,
-    alloc: Global,
-    parts: Option<(Node, Node)>,
-) -> Result<(), NoMemory>
+fn append(nodes: &mut Nodes, alloc: Global, parts: Option<(Node, Node)>) -> Result<(), NoMemory>
     ensures ok { OnOk result (nodes.new ≡ nodes.old ++ spots_from parts) }
     ensures err { OnErr result (nodes.new ≡ nodes.old) }
 {

@@ -45,9 +45,7 @@ impl GrowingTree {
     pub fn start(alloc: Global, cell: Cell) -> Result<GrowingTree, NoMemory>
         requires { length cell ≤ 16 }
         ensures version { IfOk result (λ t. t.version ≡ record { region = cell; entries = map.empty }) }
-        ensures waiting {
-            IfOk result (λ t. t.waiting ≡ record { path = []; region = cell } ∷ [])
-        }
+        ensures waiting { IfOk result (λ t. t.waiting ≡ record { path = []; region = cell } ∷ []) }
     {
         // A cell has a point.
         let _ = cell.region();
@@ -59,9 +57,7 @@ impl GrowingTree {
 
     /// The root cell, as one that waits.
     pub fn root(&self) -> Result<Pending, NoMemory>
-        ensures {
-            IfOk result (λ root. root ≡ record { path = []; region = self.now.version.region })
-        }
+        ensures { IfOk result (λ root. root ≡ record { path = []; region = self.now.version.region }) }
     {
         self.nodes.get(0).waiting()
     }
@@ -72,15 +68,11 @@ impl GrowingTree {
         requires { IsShortCut path f.outcome }
         ensures may { OnOk result (MayEnter self.old.version path f) }
         ensures entered { OnOk result (self.new.version ≡ with_entry self.old.version path f.outcome) }
-        ensures waiting {
-            OnOk result (self.new.waiting ≡ without path self.old.waiting
-            ++ map_list (cell_in self.new.version) (parts_by path f.outcome))
-        }
+        ensures waiting { OnOk result (self.new.waiting ≡ without path self.old.waiting
+            ++ map_list (cell_in self.new.version) (parts_by path f.outcome)) }
         ensures outcome { IfOk result (λ added. arc_value added.outcome ≡ f.outcome) }
-        ensures parts {
-            IfOk result (λ added.
-            cells_from added.parts ≡ map_list (cell_in self.new.version) (parts_by path f.outcome))
-        }
+        ensures parts { IfOk result (λ added.
+            cells_from added.parts ≡ map_list (cell_in self.new.version) (parts_by path f.outcome)) }
         ensures refused { IfErr result (λ e. IsTreeErr self.old.version path f e) }
         ensures same { OnErr result (self.new ≡ self.old) }
     {

@@ -4,8 +4,8 @@
 mod answers;
 mod builders;
 mod descents;
-mod in_place;
 mod growth;
+mod in_place;
 mod journals;
 mod laws;
 mod meetings;

@@ -1,5 +1,7 @@
 // Threads pass versions, journals and refusals on and share them.
-use crate::{Answer, GrowingTree, Journal, Pending, Queries, Reply, Said, TreeBuilder, TreeErr, Version};
+use crate::{
+    Answer, GrowingTree, Journal, Pending, Queries, Reply, Said, TreeBuilder, TreeErr, Version,
+};
 
 fn is_shared<T: Send + Sync>() {}
 

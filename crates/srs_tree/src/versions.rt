@@ -162,10 +162,8 @@ impl Version {
         ensures may { OnOk result (MayEnter self.now path f) }
         ensures entered { IfOk result (λ g. g.version ≡ with_entry self.now path f.outcome) }
         ensures outcome { IfOk result (λ g. arc_value g.outcome ≡ f.outcome) }
-        ensures parts {
-            IfOk result (λ g.
-            cells_from g.parts ≡ map_list (cell_in g.version) (parts_by path f.outcome))
-        }
+        ensures parts { IfOk result (λ g.
+            cells_from g.parts ≡ map_list (cell_in g.version) (parts_by path f.outcome)) }
         ensures refused { IfErr result (λ e. IsTreeErr self.now path f e) }
     {
         let (i, f) = place_for(&self.nodes, &path, f)?;

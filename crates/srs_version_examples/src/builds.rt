@@ -133,7 +133,11 @@ fn fault_of(alloc: Global, text: &str) -> Result<Option<(u32, Fault)>, Fail> {
     let cert = certificate(alloc, text)?;
     match (build(alloc, &cert)?, check(alloc, &cert)?) {
         (Built::Bad(line, fault), Checked::Bad(at, found)) => {
-            Ok(if (line, fault) == (at, found) { Some((line, fault)) } else { None })
+            Ok(if (line, fault) == (at, found) {
+                Some((line, fault))
+            } else {
+                None
+            })
         }
         _ => Ok(None),
     }

@@ -153,7 +153,11 @@ fn grown(alloc: Global) -> Result<(Version, Option<(u32, u32)>, bool), Fail> {
     match version.grown(alloc, Path::root(), finding_of(alloc, &[], None)?) {
         Ok(grown) => {
             let same = cut(&grown.outcome) == Some((0, 1, 0));
-            Ok((grown.version, halves(&grown.parts), same && version.count() == 0))
+            Ok((
+                grown.version,
+                halves(&grown.parts),
+                same && version.count() == 0,
+            ))
         }
         Err(_) => Err("it is entered")?,
     }

@@ -48,6 +48,8 @@ returns-clause-certified c = walk_certifies c.args.c.now c.loop-i.i c.loop-i.wai
 
 pub divide-requires : goal.divide-requires
 divide-requires c =
-    let s : WalkState c.args.c.now c.loop-i.i (c.in-Some.cell ∷ c.take.new.self) = subst (WalkState c.args.c.now c.loop-i.i) c.in-Some.ensures c.loop-i.invariant in
-    (lit< tt, few_after c.args.c.now c.loop-i.i (omega arith) c.in-Some.cell c.take.new.self s c.in_ok-test_node.field-0 c.in_ok-test_node.ensures
-    c.node_count-i-end.ensures.certificate c.in-Divided.ge c.in-Divided.lt c.in-Divided.is)
+    let s : WalkState c.args.c.now c.loop-i.i (c.in-Some.cell ∷ c.take.new.self) = subst (WalkState c.args.c.now c.loop-i.i) c.in-Some.ensures c.loop-i.invariant in (
+      lit< tt,
+      few_after c.args.c.now c.loop-i.i (omega arith) c.in-Some.cell c.take.new.self s c.in_ok-test_node.field-0 c.in_ok-test_node.ensures
+          c.node_count-i-end.ensures.certificate c.in-Divided.ge c.in-Divided.lt c.in-Divided.is,
+    )

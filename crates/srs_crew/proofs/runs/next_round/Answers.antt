@@ -1,7 +1,6 @@
 -- The counts are those of the plan, and fit.
 use Rattle.std.proofs.Common.{◌+◌, arith}
 use Rattle.srs_crew.specs.Rounds.{AreRowsDone, IsRoundDone}
-use Rattle.srs_crew.proofs.Working.{on_ok}
 use Rattle.srs_crew.proofs.Running.{counts_fit, plan_round, rows_next}
 use Rattle.srs_crew.proofs.runs.next_round.Goals as goal
 
@@ -23,6 +22,5 @@ level-requires-clause-plan g c κs within =
 pub returns-clause-rows : goal.returns-clause-rows
 returns-clause-rows g c =
     let t = c.args.atlas.now.fixed in
-    on_ok (IsRoundDone t c.args.round c.counts-counts.new.pass.seen c.level.new.pass.seen) (AreRowsDone c.level.new.pass.seen (c.args.round + 1)) c.level.result
-    (rows_next t c.args.limits.now c.requires.plan c.wits.ensures.budget c.args.pass.now.seen c.counts-counts.new.pass.seen c.level.new.pass.seen c.args.round c.requires.rows c.counts-counts.ensures.seen c.level.ensures.seen)
-    c.level.ensures.done
+    rows_next t c.args.limits.now c.requires.plan c.wits.ensures.budget c.args.pass.now.seen c.counts-counts.new.pass.seen c.level.new.pass.seen c.args.round c.requires.rows c.counts-counts.ensures.seen c.level.ensures.seen
+    c.in_ok-level.ensures.done

@@ -11,8 +11,9 @@ pub returns-in_default-clause-none : goal.returns-in_default-clause-none
 returns-in_default-clause-none c b asked =
     let size = asked_length _ (Certify b) asked in
     elim c.in_default.branch [
-      in_default-via-then-words-lt4 w ↦ absurd (omega (arith, size, length-map c.args.words.now (string_bytes {Z = Global}), ltb-true, ltb-false))
-    | in_default-via-else-words-lt4+else-words-lt5 w ↦ absurd (omega (arith, size, length-map c.args.words.now (string_bytes {Z = Global}), ltb-true, ltb-false)) ]
+      | in_default-via-then-words-lt4 w ↦ absurd (omega (arith, size, length-map c.args.words.now (string_bytes {Z = Global}), ltb-true, ltb-false))
+      | in_default-via-else-words-lt4+else-words-lt5 w ↦ absurd (omega (arith, size, length-map c.args.words.now (string_bytes {Z = Global}), ltb-true, ltb-false))
+    ]
 
 pub returns-clause-none : goal.returns-clause-none
 returns-clause-none c =
