@@ -18,14 +18,13 @@ fn is_found_again(alloc: Global, finding: &Finding) -> Result<bool, Fail> {
     Ok(same && again.w() == 16 && is_plain(again.outcome(), Plain::Outside(&[1])))
 }
 
-// Whether both owners of the outcome have it.
-fn is_shared(alloc: Global, finding: Finding) -> bool {
-    match finding.shared(alloc) {
-        Ok((one, other)) => {
-            is_plain(&one, Plain::Outside(&[1])) && is_plain(&other, Plain::Outside(&[1]))
-        }
-        Err(_) => false,
-    }
+// Whether the owner of the outcome and the finding both have it, and whether the finding's parts do.
+fn is_shared(alloc: Global, finding: Finding) -> Result<bool, Fail> {
+    let (owner, finding) = finding.share_outcome(alloc).map_err(|_| "want of memory")?;
+    let both = is_plain(owner.as_ref(), Plain::Outside(&[1]))
+        && is_plain(finding.outcome(), Plain::Outside(&[1]));
+    let (_, w, outcome) = finding.parts(alloc)?;
+    Ok(both && w == 16 && is_plain(&outcome, Plain::Outside(&[1])))
 }
 
 #[test]
@@ -34,7 +33,7 @@ fn findings(rt: HostRuntime) -> Result<(), Fail> {
     let cell = part(alloc, &SPLIT, &OUTSIDE)?;
     let finding = refine(alloc, &cell, None, 16)?;
     assert!(rt; is_found_again(alloc, &finding)?);
-    assert!(rt; is_shared(alloc, finding));
+    assert!(rt; is_shared(alloc, finding)?);
     let left = Finding::unfound(cell.region().copy(alloc)?, 16);
     assert!(rt; is_plain(left.outcome(), Plain::Left(Cause::Memory)));
     Ok(())
