@@ -16,6 +16,14 @@ pub const UP: Cut = ((0, 1, 0), Side::Ge);
 
 pub const DOWN: Cut = ((0, 1, 0), Side::Lt);
 
+pub const RIGHT: Cut = ((1, 0, 0), Side::Ge);
+
+pub const LEFT: Cut = ((1, 0, 0), Side::Lt);
+
+pub const OVER: Cut = ((1, 1, 0), Side::Ge);
+
+pub const UNDER: Cut = ((1, 1, 0), Side::Lt);
+
 // The cell of the polygon.
 pub fn cell_of(alloc: Global, polygon: &str) -> Result<Cell, Fail> {
     if polygon.len() > 1000 {
