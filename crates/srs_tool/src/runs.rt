@@ -1,7 +1,7 @@
 // Runs of `plain` over memory, for the tests of the commands.
 use crate::plain::plain;
 use crate::status::Status;
-use srs_text::{Bytes, Lines, MemSink, MemSource, Nums};
+use srs_text::{Bytes, MemSink, MemSource, Nums};
 use std::alloc::{AllocError, Global};
 use std::test::Fail;
 
@@ -94,16 +94,4 @@ pub(crate) fn first_other_of(
         }
     }
     Ok(None)
-}
-
-/// How many lines of the text begin so.
-pub(crate) fn lines_that_start(text: &[u8], start: &[u8]) -> usize {
-    let mut lines = Lines::new(text);
-    let mut count = 0;
-    while let Some(line) = lines.next() {
-        if line.starts_with(start) {
-            count += 1;
-        }
-    }
-    count
 }
