@@ -13,6 +13,7 @@ pub fn shared_cell(cell: &Pending) -> Result<Pending, NoMemory>
         Ok(region) => Ok(Pending {
             path: cell.path,
             cell: region,
+            place: cell.place,
         }),
         Err(_) => Err(NoMemory),
     }

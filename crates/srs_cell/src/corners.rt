@@ -1,5 +1,5 @@
 // Cutting the corners of a region by a form.
-ghost use Rattle.std.specs.Prelude.{◌≡◌, ◌≤◌, ◌^◌, ◌↔◌, ◌+◌, ◌∷◌, ◌++◌, [], IsTrue, IfOk, MatchOption, All, length, take};
+ghost use Rattle.std.specs.Prelude.{◌≡◌, ◌≤◌, ◌^◌, ◌↔◌, ◌+◌, ◌∷◌, ◌++◌, [], IsTrue, IfOk, MatchOption, All, List, length, take};
 ghost use Rattle.srs_num.specs.Points.{Point, IsNear, IsPointWithin};
 ghost use Rattle.srs_plane.specs.declared.halves.Half.{Half};
 ghost use Rattle.srs_plane.specs.Regions.{IsIn};
@@ -73,24 +73,18 @@ pub(crate) fn keep_above(
     Ok(kept)
 }
 
-// What the section's line leaves of the region's first `count` halves, whose corners these are. It takes memory only for a
-// part.
+// What the section's line leaves of the halves whose corners these are. It takes memory only for a part.
 pub(crate) fn clip_corners(
     alloc: Global,
-    region: &Region,
-    count: u32,
     corners: &[Corner],
     section: &Section,
 ) -> Result<Remains, NoMemory>
-    requires count { count ≤ length region.now }
-    requires hull { IsHull (boxed (take count region.now)) corners.now }
     requires sized { All (IsPointWithin (2 ^ 77)) corners.now }
-    requires section { IsSection (boxed (take count region.now)) section.now }
-    ensures { IfOk result (IsLeft (boxed (take count region.now)) corners.now section.now.line) }
+    requires section { (R : List Half) × IsHull (boxed R) corners.now × IsSection (boxed R)
+        section.now }
+    ensures { (R : List Half) → IsHull (boxed R) corners.now → IsSection (boxed R) section.now
+        → IfOk result (IsLeft (boxed R) corners.now section.now.line) }
 {
-    // The clauses alone speak of the halves: the section has their ends.
-    let _region = region;
-    let _count = count;
     if all_above(corners, &section.line) {
         return Ok(Remains::Whole);
     }
@@ -146,7 +140,7 @@ pub(crate) fn corners_of(alloc: Global, region: &Region) -> Result<Option<Vec<Co
     for i in 0..count {
         let half = region.half(i);
         let section = Section::of(region, i, &half.form);
-        match clip_corners(alloc, region, i, &corners, &section)? {
+        match clip_corners(alloc, &corners, &section)? {
             Remains::Whole => {}
             Remains::Nothing => return Ok(None),
             Remains::Part(part) => corners = part,
@@ -155,25 +149,22 @@ pub(crate) fn corners_of(alloc: Global, region: &Region) -> Result<Option<Vec<Co
     Ok(Some(corners))
 }
 
-// The corners of the region with a half of the section's line appended, from those of the region, where some of these are
+// The corners of a region with a half of the section's line appended, from those of the region, where some of these are
 // in that half.
 pub(crate) fn part_corners(
     alloc: Global,
-    region: &Region,
     corners: &CornerList,
     section: &Section,
     tally: Tally,
 ) -> Result<Vec<Corner>, NoMemory>
-    requires few { length region.now ≤ MOST_HALVES }
-    requires corners { AreCorners region.now corners.now }
-    requires section { IsSection (boxed region.now) section.now }
+    requires section { (R : List Half) × AreCorners R corners.now × IsSection (boxed R)
+        section.now × (length R ≤ MOST_HALVES) }
     requires tally { IsTally section.now.line corners.now tally }
     requires some { 1 ≤ tally.above + tally.on }
-    ensures { IfOk result (λ part. (h : Half) → h.form ≡ section.now.line → AreCorners
-        (region.now ++ h ∷ []) part.items) }
+    ensures { (R : List Half) → AreCorners R corners.now → IsSection (boxed R) section.now
+        → IfOk result (λ part. (h : Half) → h.form ≡ section.now.line → AreCorners (R ++ h ∷ [])
+        part.items) }
 {
-    // The clauses alone speak of the halves: the section has their ends.
-    let _region = region;
     if tally.below == 0 {
         let copy = copied(alloc, corners.as_slice())?;
         return Ok(copy);

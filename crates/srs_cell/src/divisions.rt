@@ -103,7 +103,7 @@ fn part(
         (λ cell. cell ≡ region.now ++ half ∷ [])) }
     ensures point { IfOk result (λ found. IsSome found → HasPoint (region.now ++ half ∷ [])) }
 {
-    let part = part_corners(alloc, region, corners, section, tally)?;
+    let part = part_corners(alloc, corners, section, tally)?;
     let longer = region.with(alloc, half)?;
     if tally.above == 0 {
         return Ok(inhabited(longer, part));

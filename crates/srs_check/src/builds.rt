@@ -1,4 +1,5 @@
 // The version of a certificate.
+ghost use Rattle.std.specs.Arc.{arc_value};
 ghost use Rattle.std.specs.Prelude.{◌≡◌, map, IfOk, OnOk};
 ghost use Rattle.srs_tree.specs.Growth.{IsProvedOf, IsOpenIn, IsShortCut};
 ghost use Rattle.srs_tree.specs.Queue.{cell_in, cells_from};
@@ -16,8 +17,9 @@ use srs_cell::Cell;
 use srs_cert::Cert;
 use srs_num::NoMemory;
 use srs_path::{Event, Finding, Outcome};
-use srs_tree::{Pending, TreeBuilder, TreeErr, Version};
+use srs_tree::{Pending, TreeBuilder, Version};
 use std::alloc::Global;
+use std::sync::Arc;
 
 /// What a build answers: each node proves itself, with the version of the tree and the counts; or the line and the fault
 /// of the first node that doesn't.
@@ -44,18 +46,19 @@ pub fn build(alloc: Global, c: &Cert) -> Result<Built, NoMemory>
         if let Err(fault) = check_node(c, &rows, &next.cell, event) {
             return Ok(Built::Bad(c.line(i), fault));
         }
-        if let Some((ge, lt)) = enter(alloc, &mut tree, event, &next.cell)? {
+        if let Some((ge, lt)) = enter(alloc, &mut tree, event, next.place, &next.cell)? {
             waiting.divide(ge, lt);
         }
     }
     Ok(Built::Valid(tree.finish(), count_nodes(c)))
 }
 
-// The event comes to the cell at its path, which is open, and the cells that it makes are given.
+// The event comes to the cell at its path, which is open and stands at this place, and the cells that it makes are given.
 fn enter(
     alloc: Global,
     tree: &mut TreeBuilder,
     event: &Event,
+    place: usize,
     cell: &Cell,
 ) -> Result<Option<(Pending, Pending)>, NoMemory>
     requires is_open { IsOpenIn (tree_of tree.old) event.now.path }
@@ -66,24 +69,20 @@ fn enter(
     ensures parts { IfOk result (λ parts. cells_from parts ≡ map (cell_in tree.new) (parts_by event.now.path (as_built event.now.outcome))) }
 {
     let found = finding(alloc, cell, &event.outcome)?;
-    match tree.add(alloc, event.path, found) {
-        Ok(parts) => Ok(parts),
-        Err(TreeErr::NoMemory(_)) => Err(NoMemory),
-        Err(TreeErr::NotThere(_) | TreeErr::Done(_) | TreeErr::OtherCell(_)) => unreachable!(),
-    }
+    tree.add(alloc, place, event.path, found)
 }
 
 // The finding of an outcome that is proved of the cell.
-fn finding(alloc: Global, cell: &Cell, outcome: &Outcome) -> Result<Finding, NoMemory>
-    requires { IsProvedOf cell.now outcome.now }
+fn finding(alloc: Global, cell: &Cell, outcome: &Arc<Outcome>) -> Result<Finding, NoMemory>
+    requires { IsProvedOf cell.now (arc_value outcome.now) }
     ensures region { IfOk result (λ f. f.region ≡ cell.now) }
-    ensures outcome { IfOk result (λ f. f.outcome ≡ as_built outcome.now) }
+    ensures outcome { IfOk result (λ f. f.outcome ≡ as_built (arc_value outcome.now)) }
 {
     let region = cell.region().copy(alloc)?;
-    match outcome {
+    match outcome.as_ref() {
         Outcome::Left(_) => Ok(Finding::unfound(region, 0)),
         Outcome::Inside(_) | Outcome::Outside(_) | Outcome::Cut(_) => {
-            Ok(Finding::found(region, 0, outcome.copy(alloc)?))
+            Ok(Finding::sharing(region, 0, Arc::try_clone(outcome)?))
         }
     }
 }

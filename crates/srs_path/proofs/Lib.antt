@@ -1,4 +1,4 @@
-pub mod Padding
+pub mod Digits
 pub mod Search
 pub mod Order
 pub mod Ranked

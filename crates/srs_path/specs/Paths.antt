@@ -1,15 +1,31 @@
--- How a path keeps its sides.
-use Rattle.std.specs.Prelude.{◌≡◌, ℕ, ◌-◌, ◌≤◌, List, ◌++◌, length, take}
-use Rattle.std.proofs.Math.ListN.{replicate}
+-- How a path keeps its sides: as the binary digits of a number, the last side lowest.
+use Rattle.std.specs.Prelude.{◌≡◌, ℕ, zero, suc, ◌+◌, ◌*◌, ◌/◌, ◌%◌, ◌^◌, ◌<◌, ◌≤◌, List, [], ◌∷◌, ◌++◌, length}
 use Rattle.srs_path.specs.declared.paths.Side.{Side}
-use Rattle.srs_path.specs.declared.paths.Side.TheVariants.{Ge}
+use Rattle.srs_path.specs.declared.paths.Side.TheVariants.{Ge, Lt}
 
--- the sides, and Ge up to 48
-abbrev pub padded : List Side → List Side
-padded s = s ++ replicate (48 - length s) Ge
+-- the digit of a side
+abbrev pub digit_of : Side → ℕ
+digit_of Ge = 0
+digit_of Lt = 1
 
--- the first n of 48 sides count, and the others are Ge
-pub record IsPadded (sides : List Side) (n : ℕ) : Type 0 where
+-- the side of a digit
+abbrev pub side_of : ℕ → Side
+side_of zero = Ge
+side_of (suc n) = Lt
+
+-- the last n digits of a number, as sides
+abbrev pub sides_of : ℕ → ℕ → List Side
+sides_of zero b = []
+sides_of (suc n) b = sides_of n (b / 2) ++ side_of (b % 2) ∷ []
+
+-- the number that has the digits of b, and behind them those of the sides
+abbrev pub digits_then : ℕ → List Side → ℕ
+digits_then b [] = b
+digits_then b (s ∷ sides) = digits_then (b * 2 + digit_of s) sides
+
+-- n digits, at most 48, are the number, and its sides give both back
+pub record IsPacked (n b : ℕ) : Type 0 where
   pub short : n ≤ 48
-  pub count : length (take n sides) ≡ n
-  pub rest : padded (take n sides) ≡ sides
+  pub below : b < 2 ^ n
+  pub count : length (sides_of n b) ≡ n
+  pub digits : digits_then 0 (sides_of n b) ≡ b

@@ -54,6 +54,18 @@ impl Finding {
         }
     }
 
+    /// A sound outcome of the region, which has other owners too.
+    pub fn sharing(region: Region, w: u32, outcome: Arc<Outcome>) -> Finding
+        requires { IsSound region w (arc_value outcome) }
+        ensures { result ≡ record { region = region; w = w; outcome = arc_value outcome } }
+    {
+        Finding {
+            region,
+            w,
+            held: Held::Shared(outcome),
+        }
+    }
+
     /// The region is left for want of memory.
     pub fn unfound(region: Region, w: u32) -> Finding
         ensures { result ≡ record { region = region; w = w; outcome = Left Memory } }

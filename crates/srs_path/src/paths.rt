@@ -2,6 +2,7 @@
 ghost use Rattle.std.specs.Prelude.{◌≡◌, ◌<◌, ◌≤◌, [], ◌∷◌, ◌++◌, length, slice_get, Some, ◌↔◌, IsTrue, MatchOption, IsSome};
 ghost use Rattle.srs_path.specs.declared.limits.TheConstants.{MOST_DEPTH};
 ghost use Rattle.srs_path.specs.declared.paths.Side.{Side};
+ghost use Rattle.srs_path.specs.Paths.{digit_of};
 
 use crate::MOST_DEPTH;
 use std::marker::Model;
@@ -13,30 +14,40 @@ pub enum Side {
     Lt,
 }
 
-// Past the last of its sides a path has this one, so that equal paths are equal arrays.
-const PAD: Side = Side::Ge;
+impl Side {
+    // Its binary digit in a path.
+    fn digit(self) -> u64
+        ensures { result ≡ digit_of self }
+    {
+        match self {
+            Side::Ge => 0,
+            Side::Lt => 1,
+        }
+    }
+}
 
 /// The sides of the cuts that lead from the root to a cell: at most `MOST_DEPTH`.
 #[derive(Clone, Copy, Debug, PartialEq, Eq, Drop)]
 pub struct Path {
-    sides: [Side; 48],
-    len: u8,
+    // The sides as binary digits, the last one lowest.
+    digits: u64,
+    len: u32,
 }
 
 impl Model for Path {
-    ghost use Rattle.std.specs.Prelude.{List, length, take};
+    ghost use Rattle.std.specs.Prelude.{List, length};
     ghost use Rattle.srs_path.specs.declared.paths.Side.{Side};
-    ghost use Rattle.srs_path.specs.Paths.{padded, IsPadded};
+    ghost use Rattle.srs_path.specs.Paths.{sides_of, digits_then, IsPacked};
 
     ghost Value = { List Side };
 
-    ghost view = { λ p. take p.len p.sides };
+    ghost view = { λ p. sides_of p.len p.digits };
 
-    ghost invariant = { λ p. IsPadded p.sides p.len };
+    ghost invariant = { λ p. IsPacked p.len p.digits };
 
-    ghost inverse = { λ v. record { sides = padded v; len = length v } };
+    ghost inverse = { λ v. record { digits = digits_then 0 v; len = length v } };
 
-    ghost inverse_ok = { λ p h i. record { sides = h.rest i; len = h.count i } };
+    ghost inverse_ok = { λ p h i. record { digits = h.digits i; len = h.count i } };
 }
 
 impl Path {
@@ -44,10 +55,7 @@ impl Path {
     pub fn root() -> Path
         ensures { result ≡ [] }
     {
-        Path {
-            sides: [PAD; 48],
-            len: 0,
-        }
+        Path { digits: 0, len: 0 }
     }
 
     /// How many sides it has: 0 to `MOST_DEPTH`.
@@ -55,7 +63,7 @@ impl Path {
         ensures len { result ≡ length self.now }
         ensures short { result ≤ MOST_DEPTH }
     {
-        self.len as u32
+        self.len
     }
 
     /// The side number `i`, counted from the root and from 0.
@@ -63,7 +71,11 @@ impl Path {
         requires { i < length self.now }
         ensures { slice_get self.now i ≡ Some result }
     {
-        self.sides[i as usize]
+        if (self.digits >> (self.len - 1 - i)) % 2 == 0 {
+            Side::Ge
+        } else {
+            Side::Lt
+        }
     }
 
     /// The path without its last side. `None` exactly at the root.
@@ -73,10 +85,10 @@ impl Path {
         if self.len == 0 {
             return None;
         }
-        let mut sides = self.sides;
-        let len = self.len - 1;
-        sides[len as usize] = PAD;
-        Some(Path { sides, len })
+        Some(Path {
+            digits: self.digits / 2,
+            len: self.len - 1,
+        })
     }
 
     /// The path with one side more. `None` exactly where it has `MOST_DEPTH`.
@@ -85,13 +97,11 @@ impl Path {
             (λ p. p ≡ self.now ++ s ∷ []) }
         ensures room { IsSome result → length self.now < MOST_DEPTH }
     {
-        if self.len as u32 == MOST_DEPTH {
+        if self.len == MOST_DEPTH {
             return None;
         }
-        let mut sides = self.sides;
-        sides[self.len as usize] = s;
         Some(Path {
-            sides,
+            digits: self.digits * 2 + s.digit(),
             len: self.len + 1,
         })
     }
@@ -100,6 +110,6 @@ impl Path {
     pub fn same(&self, other: &Path) -> bool
         ensures { IsTrue result ↔ (self.now ≡ other.now) }
     {
-        self == other
+        self.digits == other.digits && self.len == other.len
     }
 }

@@ -9,7 +9,7 @@ use srs_cell::Cell;
 use srs_num::NoMemory;
 use srs_path::{Last, Limits};
 use srs_refine::Refiner;
-use srs_tree::{Pending, TreeBuilder, TreeErr, Version};
+use srs_tree::{Pending, TreeBuilder, Version};
 use std::alloc::Global;
 
 /// The tree of the cell, which has at most 16 halves: round by round, each cell has the outcome of its region, and a limit
@@ -82,14 +82,9 @@ fn refine_cell(
     ensures { OnOk result (GetsOutcome last wits tree.old tree.new pending.now next.old.items next.new.items) }
 {
     let finding = refiner.refine(alloc, &pending.cell, last, wits)?;
-    match tree.add(alloc, pending.path, finding) {
-        Ok(Some((ge, lt))) => {
-            next.push(ge)?;
-            next.push(lt)?;
-            Ok(())
-        }
-        Ok(None) => Ok(()),
-        Err(TreeErr::NoMemory(_)) => Err(NoMemory),
-        Err(_) => unreachable!(),
+    if let Some((ge, lt)) = tree.add(alloc, pending.place, pending.path, finding)? {
+        next.push(ge)?;
+        next.push(lt)?;
     }
+    Ok(())
 }

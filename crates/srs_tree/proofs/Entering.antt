@@ -15,7 +15,7 @@ use Rattle.srs_path.specs.declared.outcomes.Outcome.TheVariants.{Cut}
 use Rattle.srs_tree.specs.declared.refusals.TreeErr.{TreeErr}
 use Rattle.srs_tree.specs.declared.refusals.TreeErr.TheVariants.{NotThere, Done, OtherCell, NoMemory}
 use Rattle.srs_tree.specs.Tree.{IsCellOf, region_at}
-use Rattle.srs_tree.specs.Growth.{IsProvedOf, IsShortCut, IsOpenIn, IsTreeErr, SaysDone, SaysOther}
+use Rattle.srs_tree.specs.Growth.{IsProvedOf, IsShortCut, IsOpenIn, MayEnter, IsTreeErr, SaysDone, SaysOther}
 use Rattle.srs_tree.specs.Snapshots.{side_cmp, Snapshot, tree_of, with_entry}
 use Rattle.srs_tree.specs.Nodes.{Spot, entries_of, root_of, snapshot_of, spots_tree, IsSpotOf, AreSpots, IsPlaceOf, parts_from, spot_with, grown, IsReadyFor, MaySettle, IsOpenAt, IsCounted, HasGrown}
 use Rattle.srs_tree.specs.Nodes.{open_cells}
@@ -107,6 +107,12 @@ module _ (xs : List Spot) (p : List Side) (i : ℕ) (x : Spot) (tree : AreSpots 
 
   pub place_open : (f : Found) → x.outcome ≡ None → x.region ≡ f.region → IsOpenAt xs p f.region i
   place_open f fresh same = record { spot = x; is = here.0; at_path = here.1; fresh = fresh; region = same }
+
+-- the spot of a cell at which a finding may be entered is open, and of its region
+pub open_at : (xs : List Spot) (p : List Side) (i : ℕ) (f : Found) → AreSpots xs → IsPlaceOf xs p i → MayEnter (snapshot_of xs) p f → IsOpenAt xs p f.region i
+open_at xs p i f tree at may =
+    place_open xs p i at.spot tree at at.is f (sym (has_outcome xs p i at.spot tree at at.is) ∙ may.is_open.open_yet)
+    (spot_region xs tree i at.spot at.is ∙ ap (region_at (root_of xs) (spots_tree xs)) at.path ∙ sym may.same)
 
 -- where the path is no cell, it has nothing
 pub no_outcome : (xs : List Spot) (p : List Side) → AreSpots xs → (IsCellOf (spots_tree xs) p → ⊥) → spots_tree xs p ≡ None

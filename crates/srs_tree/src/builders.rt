@@ -1,12 +1,12 @@
 // Trees that are still made.
-ghost use Rattle.std.specs.Prelude.{◌≡◌, ◌≤◌, [], length, map as map_list, IfOk, IfErr, OnOk, OnErr};
+ghost use Rattle.std.specs.Prelude.{◌≡◌, ◌≤◌, [], length, map as map_list, IfOk, OnOk, OnErr};
 ghost use Rattle.std.specs.FinMap as map;
 ghost use Rattle.srs_tree.specs.Snapshots.{with_entry};
 ghost use Rattle.srs_tree.specs.Rounds.{parts_by};
 ghost use Rattle.srs_tree.specs.Queue.{cell_in, cells_from};
-ghost use Rattle.srs_tree.specs.Growth.{IsShortCut, MayEnter, IsTreeErr};
+ghost use Rattle.srs_tree.specs.Growth.{IsShortCut, MayEnter};
 
-use crate::{GrowingTree, Pending, TreeErr, Version};
+use crate::{GrowingTree, Pending, Version};
 use srs_cell::Cell;
 use srs_num::NoMemory;
 use srs_path::{Finding, Path};
@@ -48,23 +48,27 @@ impl TreeBuilder {
         self.tree.root()
     }
 
-    /// The outcome of the finding is entered at the path; a cut's path is shorter than 48. It gives the two cells that a cut
-    /// makes, Ge first. An `Err` leaves the tree as it was.
+    /// The outcome of the finding is entered at the path, which is an open cell, and the finding is of its region; a cut's path
+    /// is shorter than 48. The cell is looked for first at the place `near`, where a `Pending` says that it is. It gives the
+    /// two cells that a cut makes, Ge first. An `Err` is want of memory, and leaves the tree as it was.
     pub fn add(
         &mut self,
         alloc: Global,
+        near: usize,
         path: Path,
         f: Finding,
-    ) -> Result<Option<(Pending, Pending)>, TreeErr>
-        requires { IsShortCut path f.outcome }
-        ensures may { OnOk result (MayEnter self.old path f) }
+    ) -> Result<Option<(Pending, Pending)>, NoMemory>
+        requires may { MayEnter self.old path f }
+        requires short { IsShortCut path f.outcome }
         ensures entered { OnOk result (self.new ≡ with_entry self.old path f.outcome) }
         ensures parts { IfOk result (λ parts.
             cells_from parts ≡ map_list (cell_in self.new) (parts_by path f.outcome)) }
-        ensures refused { IfErr result (λ e. IsTreeErr self.old path f e) }
         ensures same { OnErr result (self.new ≡ self.old) }
     {
-        Ok(self.tree.enter(alloc, path, f)?.parts)
+        match self.tree.enter_near(alloc, near, path, f) {
+            Ok(added) => Ok(added.parts),
+            Err(_) => Err(NoMemory),
+        }
     }
 
     /// The version with what was entered. It takes no memory.

@@ -101,7 +101,7 @@ fn enter_at(nodes: &mut Nodes, alloc: Global, i: usize, f: Finding) -> Result<Ad
         Ok(parts) => parts,
         Err(NoMemory) => return Err(f),
     };
-    let open = match open_parts(&parts) {
+    let open = match open_parts(&parts, nodes.len()) {
         Ok(open) => open,
         Err(NoMemory) => return Err(f),
     };
@@ -170,12 +170,16 @@ fn parts_of(alloc: Global, node: &Node, outcome: &Outcome) -> Result<Option<(Nod
     }
 }
 
-// The parts as open cells.
-fn open_parts(parts: &Option<(Node, Node)>) -> Result<Option<(Pending, Pending)>, NoMemory>
+// The parts, which will stand from this place on, as open cells.
+fn open_parts(
+    parts: &Option<(Node, Node)>,
+    place: usize,
+) -> Result<Option<(Pending, Pending)>, NoMemory>
+    requires { place ≤ 2 ^ 48 }
     ensures { IfOk result (λ cells. cells_from cells ≡ map waiting_of (spots_from parts.now)) }
 {
     match parts {
-        Some((ge, lt)) => Ok(Some((ge.waiting()?, lt.waiting()?))),
+        Some((ge, lt)) => Ok(Some((ge.waiting(place)?, lt.waiting(place + 1)?))),
         None => Ok(None),
     }
 }

@@ -8,7 +8,7 @@ ghost use Rattle.srs_tree.specs.Queue.{cell_in, cells_from, without};
 ghost use Rattle.srs_tree.specs.Growth.{IsShortCut, MayEnter, IsTreeErr};
 
 use crate::growth::{enter, place_for};
-use crate::nodes::{Node, Nodes, open_in};
+use crate::nodes::{Node, Nodes, open_in, place_near};
 use crate::waiting::Added;
 use crate::{Pending, PendingList, TreeErr, Version};
 use srs_cell::Cell;
@@ -59,7 +59,7 @@ impl GrowingTree {
     pub fn root(&self) -> Result<Pending, NoMemory>
         ensures { IfOk result (λ root. root ≡ record { path = []; region = self.now.version.region }) }
     {
-        self.nodes.get(0).waiting()
+        self.nodes.get(0).waiting(0)
     }
 
     /// The outcome of the finding is entered at the path; a cut's path is shorter than 48. It gives an owner of the outcome,
@@ -84,6 +84,28 @@ impl GrowingTree {
             }
             Err(f) => Err(TreeErr::NoMemory(f)),
         }
+    }
+
+    // As `enter`, where it is known that the finding may be entered; the cell is looked for at the place `near` first.
+    pub(crate) fn enter_near(
+        &mut self,
+        alloc: Global,
+        near: usize,
+        path: Path,
+        f: Finding,
+    ) -> Result<Added, Finding>
+        requires may { MayEnter self.old.version path f }
+        requires short { IsShortCut path f.outcome }
+        ensures entered { OnOk result (self.new.version ≡ with_entry self.old.version path f.outcome) }
+        ensures parts { IfOk result (λ added.
+            cells_from added.parts ≡ map_list (cell_in self.new.version) (parts_by path f.outcome)) }
+        ensures err { IfErr result (λ g. g ≡ f) }
+        ensures same { OnErr result (self.new ≡ self.old) }
+    {
+        let i = place_near(&self.nodes, near, &path);
+        let added = enter(&mut self.nodes, alloc, &path, i, f)?;
+        self.count += 1;
+        Ok(added)
     }
 
     /// The version, which shares all cells. An `Err` is want of memory.

@@ -130,13 +130,14 @@ impl Node {
         Answer::of(outcome.as_ref())
     }
 
-    // The cell as one that waits.
-    pub(crate) fn waiting(&self) -> Result<Pending, NoMemory>
+    // The cell, which stands at this place, as one that waits.
+    pub(crate) fn waiting(&self, place: usize) -> Result<Pending, NoMemory>
         ensures { IfOk result (λ cell. cell ≡ waiting_of self.now) }
     {
         Ok(Pending {
             path: self.path,
             cell: shared(&self.cell)?,
+            place,
         })
     }
 }
@@ -175,19 +176,19 @@ pub(crate) fn open_in(alloc: Global, nodes: &Nodes) -> Result<PendingList, NoMem
 {
     let mut cells = Vec::new(alloc);
     for i in 0..nodes.len() {
-        list_open(nodes.get(i), &mut cells)?;
+        list_open(nodes.get(i), i, &mut cells)?;
     }
     Ok(PendingList::of(cells))
 }
 
-// Lists the cell, if it has no outcome. An `Err` is want of memory.
-fn list_open(node: &Node, cells: &mut Vec<Pending>) -> Result<(), NoMemory>
+// Lists the cell, which stands at this place, if it has no outcome. An `Err` is want of memory.
+fn list_open(node: &Node, place: usize, cells: &mut Vec<Pending>) -> Result<(), NoMemory>
     ensures { OnOk result (cells.new.items ≡ cells.old.items ++ if_open node.now node.now.outcome) }
 {
     match node.outcome() {
         Some(_) => Ok(()),
         None => {
-            cells.push(node.waiting()?)?;
+            cells.push(node.waiting(place)?)?;
             Ok(())
         }
     }
@@ -210,6 +211,21 @@ pub(crate) fn find(nodes: &Nodes, path: &Path) -> Result<usize, Path>
         }
     }
     Ok(at)
+}
+
+// The place of the cell at the path. It is looked for at the place `near` first.
+pub(crate) fn place_near(nodes: &Nodes, near: usize, path: &Path) -> usize
+    requires spots { AreSpots nodes.now }
+    requires cell { IsCellOf (spots_tree nodes.now) path.now }
+    ensures { IsPlaceOf nodes.now path.now result }
+{
+    if near < nodes.len() && nodes.get(near).path().same(path) {
+        return near;
+    }
+    match find(nodes, path) {
+        Ok(i) => i,
+        Err(_) => unreachable!(),
+    }
 }
 
 // The outcome at the path, if it has one.

@@ -84,7 +84,7 @@ impl Version {
     pub fn root(&self) -> Result<Pending, NoMemory>
         ensures { IfOk result (λ root. root ≡ record { path = []; region = self.now.region }) }
     {
-        self.nodes.get(0).waiting()
+        self.nodes.get(0).waiting(0)
     }
 
     /// How many outcomes it has.

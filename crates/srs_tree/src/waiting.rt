@@ -10,6 +10,8 @@ use std::sync::Arc;
 pub struct Pending {
     pub path: Path,
     pub cell: Arc<Cell>,
+    /// Where its tree keeps it: `TreeBuilder::add` looks there first. It tells nothing else.
+    pub place: usize,
 }
 
 impl Model for Pending {

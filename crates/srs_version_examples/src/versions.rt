@@ -133,18 +133,17 @@ fn halves(parts: &Option<(Pending, Pending)>) -> Option<(u32, u32)> {
     }
 }
 
-// The tree with the root's finding, and how many halves the two cells have that it makes.
-fn built(alloc: Global) -> Result<(Version, Option<(u32, u32)>), Fail> {
+// The tree with the root's finding, which is looked for at this place first, and how many halves the two cells have that it
+// makes.
+fn built(alloc: Global, near: usize) -> Result<(Version, Option<(u32, u32)>), Fail> {
     let cell = cell_of(alloc, SPLIT)?;
     if cell.region().len() > 16 {
         Err("it has three halves")?;
     }
+    let finding = refine(alloc, &cell, None, 16)?;
     let mut tree = TreeBuilder::start(alloc, cell)?;
-    let root = tree.root()?;
-    match tree.add(alloc, root.path, finding_of(alloc, &[], None)?) {
-        Ok(parts) => Ok((tree.finish(), halves(&parts))),
-        Err(_) => Err("it is entered")?,
-    }
+    let parts = tree.add(alloc, near, Path::root(), finding)?;
+    Ok((tree.finish(), halves(&parts)))
 }
 
 // The same by a version that grows.
@@ -166,9 +165,11 @@ fn grown(alloc: Global) -> Result<(Version, Option<(u32, u32)>, bool), Fail> {
 #[test]
 fn cells_of_a_cut(rt: HostRuntime) -> Result<(), Fail> {
     let alloc = rt.alloc();
-    let (version, parts) = built(alloc)?;
-    assert_eq!(rt; parts, Some((4, 4)));
-    assert!(rt; has(alloc, &version, 1, ONE)?);
+    for near in 0..2 {
+        let (version, parts) = built(alloc, near)?;
+        assert_eq!(rt; parts, Some((4, 4)));
+        assert!(rt; has(alloc, &version, 1, ONE)?);
+    }
     let (other, parts, same) = grown(alloc)?;
     assert_eq!(rt; (parts, same), (Some((4, 4)), true));
     assert!(rt; has(alloc, &other, 1, ONE)?);

@@ -140,11 +140,11 @@ impl Search {
     }
 
     // The refusal that shows why the search stopped.
-    fn refusal(&self, alloc: Global, cell: &Cell, bound: u32, stop: Stop) -> WitErr
-        requires { IsStop cell.now bound self.now.found self.now.origin stop }
-        ensures { IsExcess cell.now bound result }
+    fn refusal(&self, alloc: Global, bound: u32, stop: Stop) -> WitErr
+        requires { (R : Area) × IsStop R bound self.now.found self.now.origin stop }
+        ensures { (R : Area) → IsStop R bound self.now.found self.now.origin stop → IsExcess R bound
+            result }
     {
-        let _cell = cell;
         match stop {
             Stop::Over => self.excess(alloc, bound),
             Stop::Long(w, span) => {
@@ -296,7 +296,7 @@ pub fn witnesses(alloc: Global, cell: &Cell, w: u32) -> Result<WitSet, WitErr>
         return Err(WitErr::NoMemory);
     };
     if let Err(stop) = search.find_all(cell, w) {
-        return Err(search.refusal(alloc, cell, w, stop));
+        return Err(search.refusal(alloc, w, stop));
     }
     match search.ascending(alloc) {
         Ok(pairs) => Ok(WitSet::new(pairs)),

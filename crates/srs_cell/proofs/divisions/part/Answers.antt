@@ -4,7 +4,7 @@ use Rattle.srs_cell.proofs.Parting.{strict_point, part_cell}
 use Rattle.srs_cell.proofs.divisions.part.Goals as goal
 
 pub inhabited-requires : goal.inhabited-requires
-inhabited-requires c = rw c.in_ok-longer.ensures (c.in_ok-part.ensures c.args.half (rw c.requires.line))
+inhabited-requires c = rw c.in_ok-longer.ensures (c.in_ok-part.ensures c.args.region.now c.requires.cell.1.corners c.requires.section c.args.half (rw c.requires.line))
 
 pub returns-then-tally-eq0-clause-part : goal.returns-then-tally-eq0-clause-part
 returns-then-tally-eq0-clause-part c = rw (← c.in_ok-longer.ensures) c.inhabited.ensures.cell
@@ -21,7 +21,7 @@ invariant_of-result c =
     let above : 1 ≤ c.args.tally.above = omega (arith, c.if-tally-eq0.false) in
     let corner = c.requires.tally.above.some above in
     let p : HasPoint (R ++ h ∷ []) = strict_point R cs k.0 h corner.0 k.1 corner.1 corner.2 in
-    rw (c.new.ensures, c.in_ok-longer.ensures) (p.0, part_cell R cs k.0 h c.in_ok-part.part.items k.1 c.requires.few (c.in_ok-part.ensures h (rw c.requires.line)) p)
+    rw (c.new.ensures, c.in_ok-longer.ensures) (p.0, part_cell R cs k.0 h c.in_ok-part.part.items k.1 c.requires.few (c.in_ok-part.ensures R k.1.corners c.requires.section h (rw c.requires.line)) p)
 
 pub returns-clause-point : goal.returns-clause-point
 returns-clause-point c =

@@ -12,3 +12,6 @@ returns-in-Ok-ascending-clause-list c =
 
 pub returns-in-Ok-ascending-clause-small : goal.returns-in-Ok-ascending-clause-small
 returns-in-Ok-ascending-clause-small c = small_from_all c.args.cell.now c.args.w c.find_all.new.self.found c.find_all.new.self.origin c.in_default-find_all.ensures.all
+
+pub returns-in-Err-clause-large : goal.returns-in-Err-clause-large
+returns-in-Err-clause-large c = c.refusal.ensures c.args.cell.now c.in-Err.ensures.stop
