@@ -1,0 +1,9 @@
+//! Worked examples of the atlas and of the crew.
+#![tactic(auto)]
+
+#[cfg(test)]
+mod atlas;
+#[cfg(test)]
+mod cells;
+#[cfg(test)]
+mod runs;
