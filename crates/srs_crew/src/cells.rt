@@ -9,7 +9,8 @@ use std::alloc::Global;
 
 const MOST: u64 = 65536;
 
-// The first cells of the list that are on paths of this length, at most 65536. An `Err` is want of memory.
+// The first cells of the list that are on paths of this length, at most 65536. An `Err` is want of
+// memory.
 pub(crate) fn of_round(
     alloc: Global,
     cells: &PendingList,

@@ -1,10 +1,10 @@
 // One round.
-ghost use Rattle.std.specs.Prelude.{◌≡◌, ◌<◌, ◌≤◌, length, OnOk, Some, None};
-ghost use Rattle.srs_path.specs.Views.{Budget};
+ghost use Rattle.std.specs.Prelude.{◌≡◌, ◌<◌, ◌≤◌, length, OnOk, None};
 ghost use Rattle.srs_turn.specs.Prefixes.{Begins};
 ghost use Rattle.srs_turn.specs.Passes.{IsPassOf};
 ghost use Rattle.srs_atlas.specs.Books.{IsLawful, waiting_in};
-ghost use Rattle.srs_crew.specs.Rounds.{IsRound, IsPlanned, AreWork, IsPlanRound, IsRoundDone, AreDone};
+ghost use Rattle.srs_crew.specs.Rounds.{IsRound, AreWork, AreDone};
+ghost use Rattle.srs_crew.specs.Rounds.{MayStart, WasPlanRound, IsJobDone};
 
 use crate::cells::of_round;
 use crate::single::settle;
@@ -19,7 +19,8 @@ use std::alloc::Global;
 use std::sync::Wait;
 use std::thread::Threads;
 
-/// What is to be done: the round, which limit is spent for its cells, and how many workers there are.
+/// What is to be done: the round, from 0 to 48, which limit is spent for its cells (one is, in
+/// round 48), and how many workers there are, from 1 to 16.
 #[derive(Clone, Copy, Debug, Drop)]
 pub struct Job {
     pub round: u32,
@@ -27,8 +28,10 @@ pub struct Job {
     pub workers: u32,
 }
 
-/// Refines the cells of the round, by 1 to 16 workers beside each other: each cell of the round that waited when the call
-/// began has then an event, and with a plan each cell of the round. An `Err` is want of memory; the history is lawful then too.
+/// Refines the cells of the round, by 1 to 16 workers beside each other: each cell of the round
+/// that waited when the call began has then an event, and with a plan each cell of the round. Each
+/// worker calls the gate before each commit. An `Err` is want of memory; the history is lawful then
+/// too.
 pub fn level<R: Threads + Wait + Sync, G: Gate>(
     rt: &R,
     alloc: Global,
@@ -40,15 +43,15 @@ pub fn level<R: Threads + Wait + Sync, G: Gate>(
     requires own { IsPassOf atlas.now pass.old }
     requires workers { (1 ≤ job.now.workers) × (job.now.workers ≤ 16) }
     requires room { job.now.last ≡ None → job.now.round < 48 }
-    requires plan { (L : Budget) → atlas.now.fixed.plan ≡ Some L → IsPlanRound L pass.old.seen job.now.round job.now.last }
+    requires plan { MayStart atlas.now.fixed job.now pass.old.seen }
     ensures own { IsPassOf atlas.now pass.new }
     ensures seen { Begins pass.old.seen pass.new.seen }
     ensures lawful { IsLawful atlas.now.fixed pass.new.seen }
-    ensures done { OnOk result (IsRoundDone atlas.now.fixed job.now.round pass.old.seen pass.new.seen) }
+    ensures done { OnOk result (IsJobDone atlas.now.fixed job.now pass.old.seen pass.new.seen) }
 {
     let waiting = atlas.pending(rt, alloc, pass)?;
     let cells = of_round(alloc, &waiting, job.round)?;
-    beside(rt, alloc, atlas, pass, &cells, job, gate)?;
+    beside(rt, alloc, atlas, pass, cells, job, gate)?;
     rest(rt, alloc, atlas, pass, job)
 }
 
@@ -59,15 +62,15 @@ fn beside<R: Threads + Wait + Sync, G: Gate>(
     alloc: Global,
     atlas: &Atlas,
     pass: &mut AtlasPass,
-    cells: &PendingList,
+    cells: PendingList,
     job: &Job,
     gate: &G,
 ) -> Result<(), NoMemory>
     requires own { IsPassOf atlas.now pass.old }
     requires workers { (1 ≤ job.now.workers) × (job.now.workers ≤ 16) }
-    requires few { length cells.now ≤ 65536 }
+    requires few { length cells ≤ 65536 }
     requires lawful { IsLawful atlas.now.fixed pass.old.seen }
-    requires work { AreWork atlas.now.fixed pass.old.seen job.now.last cells.now }
+    requires work { AreWork atlas.now.fixed pass.old.seen job.now.last cells }
     ensures own { IsPassOf atlas.now pass.new }
     ensures seen { Begins pass.old.seen pass.new.seen }
     ensures lawful { IsLawful atlas.now.fixed pass.new.seen }
@@ -78,12 +81,11 @@ fn beside<R: Threads + Wait + Sync, G: Gate>(
     let first = atlas.split_pass(pass);
     let shift = Shift {
         alloc,
-        atlas,
         cells,
         last: job.last,
-        claims: &claims,
+        claims,
     };
-    let (back, _seat) = crew(rt, &shift, first, seat, gate, job.workers);
+    let (back, _seat) = crew(rt, atlas, &shift, first, seat, gate, job.workers);
     atlas.join_pass(pass, back);
     Ok(())
 }
@@ -98,11 +100,11 @@ fn rest<R: Wait>(
 ) -> Result<(), NoMemory>
     requires own { IsPassOf atlas.now pass.old }
     requires room { job.now.last ≡ None → job.now.round < 48 }
-    requires plan { IsPlanned atlas.now.fixed pass.old.seen job.now.round job.now.last }
+    requires plan { WasPlanRound atlas.now.fixed pass.old.seen job.now.round job.now.last }
     ensures own { IsPassOf atlas.now pass.new }
     ensures seen { Begins pass.old.seen pass.new.seen }
     ensures lawful { IsLawful atlas.now.fixed pass.new.seen }
-    ensures done { OnOk result (IsRoundDone atlas.now.fixed job.now.round pass.old.seen pass.new.seen) }
+    ensures done { OnOk result (IsJobDone atlas.now.fixed job.now pass.old.seen pass.new.seen) }
 {
     let waiting = atlas.pending(rt, alloc, pass)?;
     settle_all(rt, alloc, atlas, pass, &waiting, job)

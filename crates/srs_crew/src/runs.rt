@@ -16,8 +16,8 @@ use std::alloc::Global;
 use std::sync::Wait;
 use std::thread::Threads;
 
-/// Refines the cell, which has at most 16 halves, round by round within the limits, by 1 to 16 workers. An `Err` is want of
-/// memory.
+/// Refines the cell, which has at most 16 halves, round by round within the limits, by 1 to 16
+/// workers, until nothing waits. Nothing is told. An `Err` is want of memory.
 pub fn run_levels<R: Threads + Wait + Sync, G: Gate>(
     rt: &R,
     alloc: Global,
@@ -64,7 +64,8 @@ fn all_rounds<R: Threads + Wait + Sync, G: Gate>(
     Ok(())
 }
 
-// One round, the rounds before it being done, and whether it has no cell. An `Err` is want of memory.
+// One round, the rounds before it being done, and whether it has no cell. An `Err` is want of
+// memory.
 fn next_round<R: Threads + Wait + Sync, G: Gate>(
     rt: &R,
     alloc: Global,

@@ -1,13 +1,10 @@
 // One cell.
-ghost use Rattle.std.specs.Prelude.{◌≡◌, ◌⊎◌, ◌≤◌, IfOk, OnOk, IsSome};
-ghost use Rattle.srs_path.specs.Refinement.{Refines};
-ghost use Rattle.srs_path.specs.declared.outcomes.Outcome.TheVariants.{Left};
-ghost use Rattle.srs_path.specs.declared.outcomes.Cause.TheVariants.{Memory};
+ghost use Rattle.std.specs.Prelude.{◌≡◌, ◌≤◌, IfOk, OnOk, IsSome};
 ghost use Rattle.srs_turn.specs.Prefixes.{Begins};
 ghost use Rattle.srs_turn.specs.Passes.{IsPassOf};
 ghost use Rattle.srs_tree.specs.Tree.{outcome_at};
 ghost use Rattle.srs_atlas.specs.Books.{IsLawful};
-ghost use Rattle.srs_crew.specs.Rounds.{IsWork};
+ghost use Rattle.srs_crew.specs.Rounds.{IsWork, IsFoundOf};
 
 use srs_atlas::{Atlas, AtlasPass, Commit};
 use srs_cell::Cell;
@@ -19,8 +16,8 @@ use srs_tree::Pending;
 use std::alloc::Global;
 use std::sync::Wait;
 
-// Refines the cell, goes through the gate, and commits what was found. An `Err` is want of memory. With `Ok` the cell has
-// an event.
+// Refines the cell, goes through the gate, and commits what was found. An `Err` is want of memory.
+// With `Ok` the cell has an event.
 pub(crate) fn settle<R: Wait, G: Gate>(
     rt: &R,
     alloc: Global,
@@ -52,8 +49,8 @@ pub(crate) fn settle<R: Wait, G: Gate>(
     }
 }
 
-// The outcome of the cell, or that there was no memory for it. The region is copied first, so an `Err` is want of memory
-// for that alone.
+// The outcome of the cell, or that there was no memory for it. The region is copied first, so an
+// `Err` is want of memory for that alone.
 fn found(
     alloc: Global,
     refiner: &mut Refiner,
@@ -65,7 +62,7 @@ fn found(
     requires few { w ≤ 16384 }
     ensures region { IfOk result (λ f. f.region ≡ cell.now) }
     ensures w { IfOk result (λ f. f.w ≡ w) }
-    ensures outcome { IfOk result (λ f. (f.outcome ≡ Left Memory) ⊎ Refines cell.now last w f.outcome) }
+    ensures outcome { IfOk result (λ f. IsFoundOf cell.now last w f.outcome) }
 {
     let region = cell.region().copy(alloc)?;
     match refiner.refine(alloc, cell, last, w) {

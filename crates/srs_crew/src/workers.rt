@@ -1,10 +1,7 @@
 // Workers, who draw cells and settle them.
-ghost use Rattle.std.specs.Prelude.{◌≡◌, ◌+◌, ◌-◌, ◌≤◌, length};
+ghost use Rattle.std.specs.Prelude.{◌+◌, ◌-◌, ◌≤◌};
 ghost use Rattle.std.specs.Thread.{IsSync};
-ghost use Rattle.srs_turn.specs.Prefixes.{Begins};
-ghost use Rattle.srs_turn.specs.Passes.{IsPassOf};
-ghost use Rattle.srs_atlas.specs.Books.{IsLawful};
-ghost use Rattle.srs_crew.specs.Rounds.{AreWork};
+ghost use Rattle.srs_crew.specs.Rounds.{MayWork, HasWorked};
 
 use crate::single::settle;
 use srs_atlas::{Atlas, AtlasPass, PendingList};
@@ -16,36 +13,33 @@ use std::alloc::Global;
 use std::sync::Wait;
 use std::thread::{Threads, join};
 
-// What the workers of a round share: the atlas, the cells, the limit that is spent for them, and the claims on their places.
+// What the workers of a round share beside the atlas: the cells, the limit that is spent for them,
+// and the claims on their places. It borrows nothing, so that the closures of `crew` can say what
+// they give back.
 #[derive(Drop)]
-pub(crate) struct Shift<'a> {
+pub(crate) struct Shift {
     pub alloc: Global,
-    pub atlas: &'a Atlas,
-    pub cells: &'a PendingList,
+    pub cells: PendingList,
     pub last: Option<Last>,
-    pub claims: &'a Claims,
+    pub claims: Claims,
 }
 
 #[tactic(auto, using(srs_turn::proofs::PrefixLemmas::begins_refl))]
 // A worker draws cells until none is left or there is no memory, and settles them.
 fn work<R: Wait, G: Gate>(
     rt: &R,
-    shift: &Shift<'_>,
+    atlas: &Atlas,
+    shift: &Shift,
     pass: AtlasPass,
     seat: ClaimSeat,
     gate: &G,
     who: u32,
 ) -> (AtlasPass, ClaimSeat)
-    requires own { IsPassOf shift.now.atlas.now pass × (seat.of ≡ shift.now.claims.now) }
-    requires lawful { IsLawful shift.now.atlas.now.fixed pass.seen }
-    requires work { AreWork shift.now.atlas.now.fixed pass.seen shift.now.last shift.now.cells.now }
-    requires few { shift.now.claims.now.n ≤ length shift.now.cells.now }
-    ensures own { IsPassOf shift.now.atlas.now result.0 × (result.1.of ≡ shift.now.claims.now) }
-    ensures seen { Begins pass.seen result.0.seen }
-    ensures lawful { IsLawful shift.now.atlas.now.fixed result.0.seen }
+    requires work { MayWork atlas.now shift.now pass seat }
+    ensures { HasWorked atlas.now shift.now pass.seen result.0 result.1 }
 {
-    match Refiner::new(shift.alloc, shift.atlas.w()) {
-        Ok(mut refiner) => draw_all(rt, shift, pass, seat, &mut refiner, gate, who),
+    match Refiner::new(shift.alloc, atlas.w()) {
+        Ok(mut refiner) => draw_all(rt, atlas, shift, pass, seat, &mut refiner, gate, who),
         Err(_) => (pass, seat),
     }
 }
@@ -53,20 +47,16 @@ fn work<R: Wait, G: Gate>(
 // Draws cells until none is left or there is no memory, and settles them.
 fn draw_all<R: Wait, G: Gate>(
     rt: &R,
-    shift: &Shift<'_>,
+    atlas: &Atlas,
+    shift: &Shift,
     mut pass: AtlasPass,
     mut seat: ClaimSeat,
     refiner: &mut Refiner,
     gate: &G,
     who: u32,
 ) -> (AtlasPass, ClaimSeat)
-    requires own { IsPassOf shift.now.atlas.now pass × (seat.of ≡ shift.now.claims.now) }
-    requires lawful { IsLawful shift.now.atlas.now.fixed pass.seen }
-    requires work { AreWork shift.now.atlas.now.fixed pass.seen shift.now.last shift.now.cells.now }
-    requires few { shift.now.claims.now.n ≤ length shift.now.cells.now }
-    ensures own { IsPassOf shift.now.atlas.now result.0 × (result.1.of ≡ shift.now.claims.now) }
-    ensures seen { Begins pass.seen result.0.seen }
-    ensures lawful { IsLawful shift.now.atlas.now.fixed result.0.seen }
+    requires work { MayWork atlas.now shift.now pass seat }
+    ensures { HasWorked atlas.now shift.now pass.seen result.0 result.1 }
 {
     for _ in rt.forever() {
         let Some(i) = shift.claims.draw(&mut seat) else {
@@ -76,7 +66,7 @@ fn draw_all<R: Wait, G: Gate>(
         let settled = settle(
             rt,
             shift.alloc,
-            shift.atlas,
+            atlas,
             &mut pass,
             refiner,
             cell,
@@ -93,47 +83,41 @@ fn draw_all<R: Wait, G: Gate>(
 }
 
 #[tactic(auto, using(crate::proofs::Working::lawful_longer))]
-// So many workers beside each other, numbered from 1.
+// So many workers beside each other, numbered from 1: one is this thread's, and the others are
+// started for it.
 pub(crate) fn crew<R: Threads + Wait + Sync, G: Gate>(
     rt: &R,
-    shift: &Shift<'_>,
+    atlas: &Atlas,
+    shift: &Shift,
     mut pass: AtlasPass,
     mut seat: ClaimSeat,
     gate: &G,
     workers: u32,
 ) -> (AtlasPass, ClaimSeat)
-    requires own { IsPassOf shift.now.atlas.now pass × (seat.of ≡ shift.now.claims.now) }
-    requires lawful { IsLawful shift.now.atlas.now.fixed pass.seen }
-    requires work { AreWork shift.now.atlas.now.fixed pass.seen shift.now.last shift.now.cells.now }
-    requires few { shift.now.claims.now.n ≤ length shift.now.cells.now }
+    requires work { MayWork atlas.now shift.now pass seat }
     requires room { (1 ≤ workers) × (workers ≤ seat.spare + 1) }
-    ensures own { IsPassOf shift.now.atlas.now result.0 × (result.1.of ≡ shift.now.claims.now) }
-    ensures seen { Begins pass.seen result.0.seen }
-    ensures lawful { IsLawful shift.now.atlas.now.fixed result.0.seen }
+    ensures { HasWorked atlas.now shift.now pass.seen result.0 result.1 }
 {
     if workers == 1 {
-        return work(rt, shift, pass, seat, gate, 1);
+        return work(rt, atlas, shift, pass, seat, gate, 1);
     }
-    let other_pass = shift.atlas.split_pass(&mut pass);
+    let other = atlas.split_pass(&mut pass);
     let other_seat = shift.claims.split(&mut seat);
-    let (one, other) = join(
+    let (first, second) = join(
         rt,
         move ||
-            requires { IsPassOf shift.now.atlas.now pass × (seat.of ≡ shift.now.claims.now) × IsLawful shift.now.atlas.now.fixed pass.seen × AreWork shift.now.atlas.now.fixed pass.seen shift.now.last shift.now.cells.now × (shift.now.claims.now.n ≤ length shift.now.cells.now) × (1 ≤ workers - 1) × (workers - 1 ≤ seat.spare + 1) × IsSync R.row }
-            ensures own { IsPassOf shift.entry.now.atlas.now result.0 × (result.1.of ≡ shift.entry.now.claims.now) }
-            ensures seen { Begins pass.seen result.0.seen }
-            ensures lawful { IsLawful shift.entry.now.atlas.now.fixed result.0.seen }
-        { crew(rt, shift, pass, seat, gate, workers - 1) },
+            requires work { MayWork atlas.now shift.now pass seat }
+            requires room { (1 ≤ workers - 1) × (workers - 1 ≤ seat.spare + 1) × IsSync R.row }
+            ensures { HasWorked atlas.entry.now shift.entry.now pass.seen result.0 result.1 }
+        { crew(rt, atlas, shift, pass, seat, gate, workers - 1) },
         move ||
-            requires { IsPassOf shift.now.atlas.now other_pass × (other_seat.of ≡ shift.now.claims.now) × IsLawful shift.now.atlas.now.fixed other_pass.seen × AreWork shift.now.atlas.now.fixed other_pass.seen shift.now.last shift.now.cells.now × (shift.now.claims.now.n ≤ length shift.now.cells.now) }
-            ensures own { IsPassOf shift.entry.now.atlas.now result.0 × (result.1.of ≡ shift.entry.now.claims.now) }
-            ensures seen { Begins other_pass.seen result.0.seen }
-            ensures lawful { IsLawful shift.entry.now.atlas.now.fixed result.0.seen }
-        { work(rt, shift, other_pass, other_seat, gate, workers) },
+            requires { MayWork atlas.now shift.now other other_seat }
+            ensures { HasWorked atlas.entry.now shift.entry.now other.seen result.0 result.1 }
+        { work(rt, atlas, shift, other, other_seat, gate, workers) },
     );
-    let (mut pass, mut seat) = one;
-    let (other_pass, other_seat) = other;
-    shift.atlas.join_pass(&mut pass, other_pass);
+    let (mut pass, mut seat) = first;
+    let (other, other_seat) = second;
+    atlas.join_pass(&mut pass, other);
     shift.claims.join(&mut seat, other_seat);
     (pass, seat)
 }

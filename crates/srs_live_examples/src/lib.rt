@@ -6,4 +6,8 @@ mod atlas;
 #[cfg(test)]
 mod cells;
 #[cfg(test)]
+mod gates;
+#[cfg(test)]
+mod levels;
+#[cfg(test)]
 mod runs;

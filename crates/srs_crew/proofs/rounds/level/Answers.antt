@@ -1,6 +1,6 @@
 -- The cells that waited are those of the round, and what is left of it is done at the end.
 use Rattle.srs_turn.proofs.PrefixLemmas.{begins_trans}
-use Rattle.srs_crew.proofs.Working.{round_later, works, done_from}
+use Rattle.srs_crew.proofs.Working.{round_later, works, done_from, on_ok}
 use Rattle.srs_crew.proofs.rounds.level.Goals as goal
 
 pub beside-requires-clause-work : goal.beside-requires-clause-work
@@ -12,4 +12,4 @@ beside-requires-clause-work g c κs within =
 
 pub returns-clause-done : goal.returns-clause-done
 returns-clause-done g c =
-    done_from c.args.atlas.now.fixed c.args.job.now.round c.args.pass.now.seen c.beside.new.pass.seen c.rest.new.pass.seen (begins_trans _ _ _ c.pending.ensures.seen c.beside.ensures.seen) c.in_ok-rest.ensures.done
+    on_ok _ _ c.rest.result (done_from c.args.atlas.now.fixed c.args.job.now.round c.args.pass.now.seen c.beside.new.pass.seen c.rest.new.pass.seen (begins_trans _ _ _ c.pending.ensures.seen c.beside.ensures.seen)) c.rest.ensures.done
