@@ -1,5 +1,5 @@
 -- Round after round.
-use Rattle.std.proofs.Common.{◌≡◌, ℕ, ◌+◌, ◌<◌, ◌≤◌, ◌==◌, List, [], length, take, drop, refl, sym, ap₂, subst, ◌∙◌, arith}
+use Rattle.std.proofs.Common.{◌≡◌, ℕ, ◌+◌, ◌<◌, ◌≤◌, ◌==◌, List, [], length, take, drop, sym, ap₂, subst, ◌∙◌, arith}
 use Rattle.std.proofs.lemmas.List.{take-append-drop, length-take-le}
 use Rattle.std.proofs.lemmas.Bool.Decides.{Decides-eqb}
 use Rattle.std.specs.Prelude.{IsSome}
@@ -101,6 +101,11 @@ none_left Root W H k legal none rows = record { each = each }
           let some = count_some (λ (p : List Side). length p == k) (cells_of H) (take k path) ((cells_are Root W H legal).from (take k path) above) ((Decides-eqb (length (take k path)) k).1 long) in
           absurd (omega (arith, some, none))
     ]
+
+-- the same, where the cells of the round were counted later
+pub none_now : (terms : Terms) (G S : History) (k : ℕ) (n : Counts) → AreRowsDone G k → Begins G S → IsLawful terms S → AreCounts S k n → n.row ≡ 0 → AreAllDone S
+none_now terms G S k n rows b lawful counts none =
+    none_left terms.root terms.w S k lawful.legal (sym counts.row ∙ none) (record { each = rows_later terms.root terms.w G S k b lawful.legal rows })
 
 -- all cells that are done are those of each row
 pub all_rows : (H : History) (k : ℕ) → AreAllDone H → AreRowsDone H k

@@ -1,5 +1,5 @@
 -- The cells of a round, and what the workers know of them.
-use Rattle.std.specs.Prelude.{◌≡◌, ◌⊎◌, ℕ, ◌<◌, List, [], ◌∷◌, ◌++◌, length, slice_get, IsSome, Some, None}
+use Rattle.std.specs.Prelude.{◌≡◌, ◌⊎◌, ℕ, ◌<◌, ◌≤◌, List, [], ◌∷◌, ◌++◌, length, slice_get, IsSome, Some, None}
 use Rattle.std.specs.declared.option.Option.{Option}
 use Rattle.srs_plane.specs.Regions.{Area}
 use Rattle.srs_path.specs.declared.paths.Side.{Side}

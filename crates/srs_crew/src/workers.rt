@@ -60,7 +60,7 @@ fn draw_all<R: Wait, G: Gate>(
 {
     for _ in rt.forever() {
         let Some(i) = shift.claims.draw(&mut seat) else {
-            break;
+            return (pass, seat);
         };
         let cell = shift.cells.get(i);
         let settled = settle(
@@ -76,10 +76,10 @@ fn draw_all<R: Wait, G: Gate>(
             i,
         );
         if settled.is_err() {
-            break;
+            return (pass, seat);
         }
     }
-    (pass, seat)
+    unreachable!()
 }
 
 #[tactic(auto, using(crate::proofs::Working::lawful_longer))]

@@ -3,4 +3,4 @@ use Rattle.srs_crew.proofs.Working.{work_at}
 use Rattle.srs_crew.proofs.workers.draw_all.Goals as goal
 
 pub settle-settled-requires-clause-work : goal.settle-settled-requires-clause-work
-settle-settled-requires-clause-work g c = work_at _ _ _ _ c.requires.work.work _ c.loop.invariant.seen _ _ c.get-cell.ensures
+settle-settled-requires-clause-work g c κs within = work_at _ _ _ _ c.requires.work.work _ c.loop.invariant.seen _ _ c.get-cell.ensures
