@@ -1,8 +1,6 @@
-//! Worked examples of the atlas and of the crew.
+//! Worked examples of the crew.
 #![tactic(auto)]
 
-#[cfg(test)]
-mod atlas;
 #[cfg(test)]
 mod cells;
 #[cfg(test)]
