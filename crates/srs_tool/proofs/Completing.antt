@@ -7,7 +7,7 @@ use Rattle.srs_check.specs.declared.faults.Fault.{Fault}
 use Rattle.srs_cert.specs.Certificates.{CertView}
 use Rattle.srs_tool.specs.declared.commands.Command.{Command}
 use Rattle.srs_tool.specs.declared.commands.Input.{Input}
-use Rattle.srs_tool.specs.declared.commands.Input.TheVariants.{Polygon, Certificate, Questions}
+use Rattle.srs_tool.specs.declared.commands.Input.TheVariants.{Polygon, Sessions, Certificate, Questions}
 use Rattle.srs_tool.specs.declared.status.Status.{Status}
 use Rattle.srs_tool.specs.declared.status.Status.TheVariants.{Done, Bad, Usage, NoMemory, ReadFault, WriteFault, Refused, TooLong}
 use Rattle.srs_tool.specs.Inputs.{input_of, longest, IsInput, HasCertificate, IsChecked}
@@ -31,6 +31,7 @@ took_within (Some xs) (Some ys) input bytes held taken =
 -- an input with a certificate is one that is checked
 has_checked : (input : Input) (text : List ℕ) (c : CertView) → HasCertificate input text c → IsChecked input
 has_checked Polygon text c has = absurd has
+has_checked Sessions text c has = absurd has
 has_checked Certificate text c has = tt
 has_checked Questions text c has = tt
 
