@@ -15,7 +15,7 @@ use Rattle.srs_tree.specs.WholeTrees.{ListsWholeTree, IsWithin}
 use Rattle.srs_tree.proofs.Listed.{listed}
 use Rattle.srs_tree.proofs.PartitionAll.{IsPartition-first}
 use Rattle.srs_cert.specs.Certificates.{CertView, IsCertificate, cert_text}
-use Rattle.srs_cert.specs.Lives.{cert_of, live_text}
+use Rattle.srs_cert.specs.Lives.{cert_of, live_text, IsLiveTextOf, LiveTextIsOne}
 use Rattle.srs_crew.specs.Runs.{IsRun}
 use Rattle.srs_tool.specs.Lives.{HasNoMemory, DecidesInRounds, before_certificate}
 use Rattle.srs_tool.specs.Output.{IsCertificateOf, EndsWithCertificate, IsLiveRunOf}
@@ -51,14 +51,18 @@ module _ (vs : List Vertex) (b : Budget) (H : History) (v : Snapshot) (point : H
     written = written;
   }
 
-pub live_run_of : (vs : List Vertex) (b : Budget) (run : Run) (cert : CertView) (text : List ℕ) → HasPoint (region_of vs) → IsRun (region_of vs) b run
+pub live_run_of : LiveTextIsOne → (vs : List Vertex) (b : Budget) (run : Run) (cert : CertView) (text : List ℕ) → HasPoint (region_of vs) → IsRun (region_of vs) b run
     → cert ≡ cert_of vs b run.version → IsCertificate cert → text ≡ live_text run.journal run.transcripts cert → IsLiveRunOf vs b text
-live_run_of vs b run cert text point is same certificate printed =
-    let written : text ≡ live_text run.journal [] (cert_of vs b run.version) =
-    printed ∙ ap (λ (told : List (List Said)). live_text run.journal told cert) is.untold ∙ ap (live_text run.journal []) same in
-    record {
-      history = run.journal;
-      decides = decides_in_rounds vs b run.journal run.version point is.whole is.stands is.in_rounds;
-      written = record { snapshot = run.version; stands = is.stands; certificate = subst IsCertificate same certificate; written = written };
-      certified = λ none. ends_with_certificate vs b run.journal run.version point is.whole is.stands none text written;
-    }
+live_run_of law vs b run cert text point is same certificate printed = record {
+  history = run.journal;
+  decides = decides_in_rounds vs b run.journal run.version point is.whole is.stands is.in_rounds;
+  written = live;
+  only = λ ws c G legal other. law ws vs c b G run.journal text legal is.whole.legal other live;
+  certified = λ none. ends_with_certificate vs b run.journal run.version point is.whole is.stands none text written;
+}
+  where
+    written : text ≡ live_text run.journal [] (cert_of vs b run.version)
+    written = printed ∙ ap (λ (told : List (List Said)). live_text run.journal told cert) is.untold ∙ ap (live_text run.journal []) same
+
+    live : IsLiveTextOf vs b run.journal [] text
+    live = record { snapshot = run.version; stands = is.stands; certificate = subst IsCertificate same certificate; written = written }

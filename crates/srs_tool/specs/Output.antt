@@ -8,6 +8,7 @@ use Rattle.srs_path.specs.Views.{Budget, Entry}
 use Rattle.srs_path.specs.Soundness.{IsSound}
 use Rattle.srs_tree.specs.declared.queries.Query.{Query}
 use Rattle.srs_tree.specs.Tree.{History, outcome_at, region_at, IsPartition}
+use Rattle.srs_tree.specs.Legality.{IsLegal}
 use Rattle.srs_tree.specs.Rounds.{IsPlan}
 use Rattle.srs_line.specs.declared.slip.Slip.{Slip}
 use Rattle.srs_line.specs.Refusal.{slip_word}
@@ -63,13 +64,15 @@ pub record EndsWithCertificate (vertices : List Vertex) (b : Budget) (H : Histor
   pub only : (other : List ℕ) → IsCertificateOf vertices b other → other ≡ certificate
   pub written : text ≡ before_certificate H ++ certificate
 
--- The text is that of a live run over the polygon, with a history that decides its region round by round. Its
--- certificate lists the events of the history in preorder, and is that of `certify` where no cell was left for want of
--- memory.
+-- The text is that of a live run over the polygon, with a history that decides its region round by round; it is the
+-- text of no other. Its certificate lists the events of the history in preorder, and is that of `certify` where no cell
+-- was left for want of memory.
 pub record IsLiveRunOf (vertices : List Vertex) (b : Budget) (text : List ℕ) : Type 0 where
   pub history : History
   pub decides : DecidesInRounds (region_of vertices) b history
   pub written : IsLiveTextOf vertices b history [] text
+  pub only : (ws : List Vertex) (c : Budget) (G : History) → IsLegal (region_of ws) c.wits G → IsLiveTextOf ws c G [] text
+      → (ws ≡ vertices) × (c ≡ b) × (G ≡ history)
   pub certified : HasNoMemory history → EndsWithCertificate vertices b history text
 
 -- the input is a polygon with no sessions, and the output is the text of a live run over it

@@ -12,7 +12,7 @@ use crate::output::Output;
 use crate::status::Status;
 use srs_cell::Cell;
 use srs_crew::run_levels;
-use srs_file::{Cert, FileErr, read_live};
+use srs_file::{Cert, FileErr, one_live_text, read_live};
 use srs_num::NoMemory;
 use srs_path::Limits;
 use srs_plane::Vertices;
@@ -88,8 +88,9 @@ fn text_of(
     let _ = limits.wits();
     let events = run.version.preorder(alloc)?;
     let cert = Cert::new(alloc, vertices.as_slice(), *limits, events)?;
-    // What is made as a certificate is one.
+    // What is made as a certificate is one, and the text of a run is that of no other.
     let _ = cert.events();
+    one_live_text();
     let mut text = Bytes::new(alloc);
     match put_live(&mut text, run, &cert) {
         Ok(()) => Ok(text),
