@@ -1,11 +1,11 @@
 -- Words that don't ask for a command.
-use Rattle.std.proofs.Common.{◌≡◌, ℕ, ℤ, List, [], ◌∷◌, ◌++◌, suc, pos, length, refl, ap, subst, Option, Some, None}
+use Rattle.std.proofs.Common.{◌≡◌, ℕ, ℤ, List, [], ◌∷◌, suc, pos, length, refl, ap, subst, Option, Some, None}
 use Rattle.std.specs.Prelude.{IfNone}
 use Rattle.srs_line.specs.Fields.{AreNumbers}
 use Rattle.srs_path.specs.Views.{Budget, IsBudget}
 use Rattle.srs_tool.specs.declared.commands.Command.{Command}
 use Rattle.srs_tool.specs.declared.commands.Command.TheVariants.{Certify, Live, Map}
-use Rattle.srs_tool.specs.Words.{limits_numbers, name_of, numbers_of, IsSide, IsCrew, Asks}
+use Rattle.srs_tool.specs.Words.{limits_numbers, name_of, numbers_of, IsSide, SpellsCrew, Asks}
 
 -- what holds anyway holds of none
 pub if_none : {X Q : Type 0} (r : Option X) → Q → IfNone r Q
@@ -48,8 +48,8 @@ no_size words first columns rows (Some x) is out = tt
 -- where they spell no limits and number of workers, they don't ask for a live run
 pub no_order : {X : Type 0} (words : List (List ℕ)) (first depth cells wits workers : List ℕ) (r : Option X)
     → words ≡ first ∷ depth ∷ cells ∷ wits ∷ workers ∷ []
-    → IfNone r ((b : Budget) (n : ℕ) → AreNumbers (depth ∷ cells ∷ wits ∷ workers ∷ []) (limits_numbers b ++ pos n ∷ []) → IsBudget b × IsCrew n → ⊥)
+    → IfNone r ((b : Budget) (n : ℕ) → SpellsCrew (depth ∷ cells ∷ wits ∷ workers ∷ []) b n → ⊥)
     → IfNone r ((b : Budget) (n : ℕ) → Asks words (Live b n) → ⊥)
 no_order words first depth cells wits workers None is out =
-    λ b n asked. let a = subst (λ (ws : List (List ℕ)). Asks ws (Live b n)) is asked in out b n a.0.1 a.1
+    λ b n asked. let a = subst (λ (ws : List (List ℕ)). Asks ws (Live b n)) is asked in out b n (a.0.1, a.1)
 no_order words first depth cells wits workers (Some x) is out = tt

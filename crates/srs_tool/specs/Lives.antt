@@ -14,15 +14,17 @@ use Rattle.srs_cert.specs.Lives.{journal_text, sessions_text}
 abbrev pub HasNoMemory : History → Type 0
 HasNoMemory H = (e : Entry) → Contains H e → e.outcome ≢ Left Memory
 
--- H is whole within the limits, and in rounds. At each beginning of H its leaves partition the region, and what each
--- outcome claims holds of its cell: inside, each point is finite; outside, at each point the printed pair recurs; cut,
--- the form divides the cell
+-- H is whole within the limits, and in rounds. At each beginning of H its leaves partition the
+-- region, and what each outcome claims holds of its cell: inside, each point is finite; outside, at
+-- each point the printed pair recurs; cut, the form divides the cell
 pub record DecidesInRounds (Root : Area) (b : Budget) (H : History) : Type 0 where
   pub whole : IsWhole Root b H
   pub in_rounds : IsInRounds H
   pub partitions : (k : ℕ) → IsPartition Root (outcome_at (take k H))
-  pub sound : (e : Entry) → Contains H e → IsSound (region_at Root (outcome_at H) e.path) b.wits e.outcome
+  pub sound : (e : Entry) → Contains H e
+      → IsSound (region_at Root (outcome_at H) e.path) b.wits e.outcome
 
--- the part of the text of a live run that stands before its certificate, where there are no sessions
+-- what stands before the certificate in the text of a live run without sessions
 abbrev pub before_certificate : History → List ℕ
-before_certificate H = count_text (codes "live") 1 ++ journal_text H ++ sessions_text [] ++ ended (codes "end")
+before_certificate H =
+    count_text (codes "live") 1 ++ journal_text H ++ sessions_text [] ++ ended (codes "end")

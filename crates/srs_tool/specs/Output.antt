@@ -57,22 +57,23 @@ pub record Certifies (b : Budget) (input output : List ℕ) : Type 0 where
   pub polygon : SpellsPolygon input vertices
   pub certificate : IsCertificateOf vertices b output
 
--- the text of a live run ends with the one certificate of the polygon, which is the text that `certify` prints
-pub record EndsWithCertificate (vertices : List Vertex) (b : Budget) (H : History) (text : List ℕ) : Type 0 where
+-- the text of a live run ends with the one certificate of the polygon, which `certify` prints
+pub record EndsWithCertificate (vertices : List Vertex) (b : Budget) (H : History) (text : List ℕ)
+    : Type 0 where
   pub certificate : List ℕ
   pub is : IsCertificateOf vertices b certificate
   pub only : (other : List ℕ) → IsCertificateOf vertices b other → other ≡ certificate
   pub written : text ≡ before_certificate H ++ certificate
 
--- The text is that of a live run over the polygon, with a history that decides its region round by round; it is the
--- text of no other. Its certificate lists the events of the history in preorder, and is that of `certify` where no cell
--- was left for want of memory.
+-- The text is that of a live run over the polygon, with a history that decides its region round by
+-- round; it is the text of no other. Its certificate lists the events of the history in preorder, and
+-- is that of `certify` where no cell was left for want of memory.
 pub record IsLiveRunOf (vertices : List Vertex) (b : Budget) (text : List ℕ) : Type 0 where
   pub history : History
   pub decides : DecidesInRounds (region_of vertices) b history
   pub written : IsLiveTextOf vertices b history [] text
-  pub only : (ws : List Vertex) (c : Budget) (G : History) → IsLegal (region_of ws) c.wits G → IsLiveTextOf ws c G [] text
-      → (ws ≡ vertices) × (c ≡ b) × (G ≡ history)
+  pub only : (ws : List Vertex) (c : Budget) (G : History) → IsLegal (region_of ws) c.wits G
+      → IsLiveTextOf ws c G [] text → (ws ≡ vertices) × (c ≡ b) × (G ≡ history)
   pub certified : HasNoMemory history → EndsWithCertificate vertices b history text
 
 -- the input is a polygon with no sessions, and the output is the text of a live run over it

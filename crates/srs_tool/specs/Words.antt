@@ -17,10 +17,14 @@ name_of Ask = codes "ask"
 abbrev pub limits_numbers : Budget → List ℤ
 limits_numbers b = pos b.depth ∷ pos b.cells ∷ pos b.wits ∷ []
 
+-- limits and a number of workers as four numbers
+abbrev pub crew_numbers : Budget → ℕ → List ℤ
+crew_numbers b workers = limits_numbers b ++ pos workers ∷ []
+
 -- the numbers behind the first word
 abbrev pub numbers_of : Command → List ℤ
 numbers_of (Certify limits) = limits_numbers limits
-numbers_of (Live limits workers) = limits_numbers limits ++ pos workers ∷ []
+numbers_of (Live limits workers) = crew_numbers limits workers
 numbers_of Check = []
 numbers_of (Map columns rows) = pos columns ∷ pos rows ∷ []
 numbers_of Ask = []
@@ -32,6 +36,10 @@ IsSide n = (1 ≤ n) × (n ≤ 200)
 -- 1 to 16 workers
 abbrev pub IsCrew : ℕ → Type 0
 IsCrew workers = (1 ≤ workers) × (workers ≤ 16)
+
+-- the words spell limits and a number of workers that `live` takes
+abbrev pub SpellsCrew : List (List ℕ) → Budget → ℕ → Type 0
+SpellsCrew words b workers = AreNumbers words (crew_numbers b workers) × (IsBudget b × IsCrew workers)
 
 -- the numbers are ones that the command takes
 abbrev pub IsInRange : Command → Type 0

@@ -1,11 +1,11 @@
 // The words of the command line.
-ghost use Rattle.std.specs.Prelude.{◌≡◌, ◌↔◌, IsTrue, List, ℕ, [], ◌∷◌, ◌++◌, map, pos, ◌<◌, ◌^◌, string_bytes, IfSome, IfNone};
+ghost use Rattle.std.specs.Prelude.{◌≡◌, ◌↔◌, IsTrue, List, ℕ, [], ◌∷◌, map, pos, ◌<◌, ◌^◌, string_bytes, IfSome, IfNone};
 ghost use Rattle.srs_text.specs.Spelling.{IsNumber};
 ghost use Rattle.srs_path.specs.Views.{Budget, IsBudget};
 ghost use Rattle.srs_line.specs.Fields.{AreNumbers};
 ghost use Rattle.srs_tool.specs.declared.commands.Command.{Command};
 ghost use Rattle.srs_tool.specs.declared.commands.Command.TheVariants.{Certify, Live, Map};
-ghost use Rattle.srs_tool.specs.Words.{limits_numbers, IsSide, IsCrew, Asks, AsksPlain};
+ghost use Rattle.srs_tool.specs.Words.{limits_numbers, IsSide, IsCrew, SpellsCrew, Asks, AsksPlain};
 
 use crate::commands::Command;
 use srs_path::Limits;
@@ -14,7 +14,8 @@ use srs_text::number;
 /// The command without threads that the words ask for, where they are in the form of one.
 pub fn plain_command(words: &[String]) -> Option<Command>
     ensures some { IfSome result (AsksPlain (map string_bytes words.now)) }
-    ensures none { IfNone result ((command : Command) → AsksPlain (map string_bytes words.now) command → ⊥) }
+    ensures none { IfNone result ((command : Command) →
+        AsksPlain (map string_bytes words.now) command → ⊥) }
 {
     if is_alone(words, "check") {
         return Some(Command::Check);
@@ -34,7 +35,8 @@ pub fn plain_command(words: &[String]) -> Option<Command>
 /// The limits and the number of workers of the `live` that the words ask for, where they do.
 pub fn live_order(words: &[String]) -> Option<(Limits, u32)>
     ensures some { IfSome result (λ r. Asks (map string_bytes words.now) (Live r.0 r.1)) }
-    ensures none { IfNone result ((b : Budget) (n : ℕ) → Asks (map string_bytes words.now) (Live b n) → ⊥) }
+    ensures none { IfNone result ((b : Budget) (n : ℕ) →
+        Asks (map string_bytes words.now) (Live b n) → ⊥) }
 {
     let [name, depth, cells, wits, workers] = words else {
         return None;
@@ -53,11 +55,9 @@ pub fn live_order(words: &[String]) -> Option<(Limits, u32)>
 // The limits and the number of workers that four words spell.
 fn crew_of(depth: &[u8], cells: &[u8], wits: &[u8], workers: &[u8]) -> Option<(Limits, u32)>
     ensures some { IfSome result (λ r.
-        AreNumbers (depth.now ∷ cells.now ∷ wits.now ∷ workers.now ∷ []) (limits_numbers r.0 ++ pos r.1 ∷ [])
-        × (IsBudget r.0 × IsCrew r.1)) }
+        SpellsCrew (depth.now ∷ cells.now ∷ wits.now ∷ workers.now ∷ []) r.0 r.1) }
     ensures none { IfNone result ((b : Budget) (n : ℕ) →
-        AreNumbers (depth.now ∷ cells.now ∷ wits.now ∷ workers.now ∷ []) (limits_numbers b ++ pos n ∷ [])
-        → IsBudget b × IsCrew n → ⊥) }
+        SpellsCrew (depth.now ∷ cells.now ∷ wits.now ∷ workers.now ∷ []) b n → ⊥) }
 {
     let limits = limits_of(depth, cells, wits)?;
     let crew = workers_of(workers)?;
@@ -134,7 +134,8 @@ fn side_of(text: &[u8]) -> Option<u32>
 // The limits behind `certify`.
 fn certify_limits(words: &[String]) -> Option<Limits>
     ensures some { IfSome result (λ b. Asks (map string_bytes words.now) (Certify b)) }
-    ensures none { IfNone result ((b : Budget) → Asks (map string_bytes words.now) (Certify b) → ⊥) }
+    ensures none { IfNone result ((b : Budget) →
+        Asks (map string_bytes words.now) (Certify b) → ⊥) }
 {
     let [name, depth, cells, wits] = words else {
         return None;

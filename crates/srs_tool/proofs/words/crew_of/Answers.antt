@@ -3,7 +3,7 @@ use Rattle.srs_tool.proofs.words.crew_of.Goals as goal
 
 pub returns-in_err-limits-clause-none : goal.returns-in_err-limits-clause-none
 returns-in_err-limits-clause-none c =
-    if_none c.from_residual.result (λ b n are ranges. c.in_err-limits.ensures.none b (are.0, are.1.0, are.1.1.0, tt) ranges.0)
+    if_none c.from_residual.result (λ b n is. c.in_err-limits.ensures.none b (is.0.0, (is.0.1.0, (is.0.1.1.0, tt))) is.1.0)
 
 pub returns-in_err-crew-clause-none : goal.returns-in_err-crew-clause-none
-returns-in_err-crew-clause-none c = if_none c.from_residual-in_err-crew.result (λ b n are ranges. c.in_err-crew.ensures.none n are.1.1.1.0 ranges.1)
+returns-in_err-crew-clause-none c = if_none c.from_residual-in_err-crew.result (λ b n is. c.in_err-crew.ensures.none n is.0.1.1.1.0 is.1.1)

@@ -1,12 +1,19 @@
-use Rattle.std.proofs.Common.{◌≡◌, [], ◌∷◌, map, string_bytes, codes, arith, Global}
+use Rattle.std.proofs.Common.{◌≡◌, ◌+◌, [], ◌∷◌, map, length, string_bytes, codes, arith, Global}
 use Rattle.std.proofs.lemmas.Grind.{common_steps}
 use Rattle.std.proofs.lemmas.List.{length-map}
+use Rattle.std.proofs.lemmas.Bool.{ltb-true, ltb-false}
 use Rattle.srs_tool.specs.declared.commands.Command.TheVariants.{Live}
 use Rattle.srs_tool.proofs.Spelling.{asked_length, no_order}
+use Rattle.srs_tool.proofs.words.live_order.Goals.{in_default-via-then-words-lt5, in_default-via-else-words-lt5+else-words-lt6}
 use Rattle.srs_tool.proofs.words.live_order.Goals as goal
 
 pub returns-in_default-clause-none : goal.returns-in_default-clause-none
-returns-in_default-clause-none c b n asked = let size = asked_length _ (Live b n) asked in absurd (omega (arith, size, length-map c.args.words.now (string_bytes {Z = Global})))
+returns-in_default-clause-none c b n asked =
+    let size = asked_length _ (Live b n) asked in
+    elim c.in_default.branch [
+      | in_default-via-then-words-lt5 w ↦ absurd (omega (arith, size, length-map c.args.words.now (string_bytes {Z = Global}), ltb-true, ltb-false))
+      | in_default-via-else-words-lt5+else-words-lt6 w ↦ absurd (omega (arith, size, length-map c.args.words.now (string_bytes {Z = Global}), ltb-true, ltb-false))
+    ]
 
 pub returns-clause-none : goal.returns-clause-none
 returns-clause-none c =
