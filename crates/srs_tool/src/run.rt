@@ -1,6 +1,5 @@
 // The top call: all that the program does.
 ghost use Rattle.std.specs.Prelude.{◌≡◌, ◌≢◌, map, string_bytes};
-ghost use Rattle.srs_path.specs.Views.{IsBudget};
 ghost use Rattle.srs_text.specs.Ends.{Rose};
 ghost use Rattle.srs_tool.specs.declared.commands.Command.{Command};
 ghost use Rattle.srs_tool.specs.declared.commands.Command.TheVariants.{Live};
