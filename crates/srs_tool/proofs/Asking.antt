@@ -1,5 +1,5 @@
 -- Words ask for one command, whose numbers are in their ranges.
-use Rattle.std.proofs.Common.{◌≡◌, ℕ, ℤ, List, [], ◌∷◌, pos, refl, sym, ap₂, subst, ◌∙◌, Option, Some, None}
+use Rattle.std.proofs.Common.{◌≡◌, ℕ, ℤ, List, [], ◌∷◌, pos, refl, sym, ap₂, ◌∙◌, Option, Some, None}
 use Rattle.std.specs.Prelude.{if◌then◌else◌, eqb, sum, codes}
 use Rattle.std.proofs.lemmas.Option.{same_Some}
 use Rattle.srs_text.proofs.Spellings.{number_once}
@@ -7,7 +7,7 @@ use Rattle.srs_line.specs.Fields.{AreNumbers}
 use Rattle.srs_path.specs.Views.{Budget}
 use Rattle.srs_tool.specs.declared.commands.Command.{Command}
 use Rattle.srs_tool.specs.declared.commands.Command.TheVariants.{Certify, Live, Check, Map, Ask}
-use Rattle.srs_tool.specs.Words.{name_of, numbers_of, Asks, IsPlain, AsksPlain}
+use Rattle.srs_tool.specs.Words.{name_of, numbers_of, Asks, AsksPlain}
 
 same_numbers : (ts : List (List ℕ)) (ys zs : List ℤ) → AreNumbers ts ys → AreNumbers ts zs → ys ≡ zs
 same_numbers [] [] [] h k = refl

@@ -1,5 +1,5 @@
 -- The text of a live run.
-use Rattle.std.proofs.Common.{◌≡◌, ℕ, List, [], ◌++◌, take, drop, refl, sym, ap, subst, ◌∙◌, take-append-drop}
+use Rattle.std.proofs.Common.{◌≡◌, ℕ, List, [], take, drop, refl, sym, ap, subst, ◌∙◌, take-append-drop}
 use Rattle.srs_plane.specs.declared.polygons.Vertex.{Vertex}
 use Rattle.srs_plane.specs.Polygons.{region_of}
 use Rattle.srs_plane.specs.Regions.{Area, HasPoint}
@@ -10,14 +10,14 @@ use Rattle.srs_tree.specs.Tree.{History, outcome_at, IsPartition}
 use Rattle.srs_tree.specs.Legality.{IsLegal}
 use Rattle.srs_tree.specs.Snapshots.{Snapshot, StandsFor}
 use Rattle.srs_tree.specs.Preorder.{preorder_of}
-use Rattle.srs_tree.specs.Rounds.{IsPlan, IsWhole, IsInRounds}
+use Rattle.srs_tree.specs.Rounds.{IsWhole, IsInRounds}
 use Rattle.srs_tree.specs.WholeTrees.{ListsWholeTree, IsWithin}
 use Rattle.srs_tree.proofs.Listed.{listed}
 use Rattle.srs_tree.proofs.PartitionAll.{IsPartition-first}
 use Rattle.srs_cert.specs.Certificates.{CertView, IsCertificate, cert_text}
 use Rattle.srs_cert.specs.Lives.{cert_of, live_text, IsLiveTextOf, LiveTextIsOne}
 use Rattle.srs_crew.specs.Runs.{IsRun}
-use Rattle.srs_tool.specs.Lives.{HasNoMemory, DecidesInRounds, before_certificate}
+use Rattle.srs_tool.specs.Lives.{HasNoMemory, DecidesInRounds}
 use Rattle.srs_tool.specs.Output.{IsCertificateOf, EndsWithCertificate, IsLiveRunOf}
 use Rattle.srs_tool.proofs.Certifying.{events_sound, plan_decides, one_certificate_of}
 

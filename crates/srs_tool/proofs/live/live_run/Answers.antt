@@ -1,5 +1,4 @@
 use Rattle.std.proofs.Common.{subst}
-use Rattle.std.proofs.Common.{List}
 use Rattle.srs_plane.specs.Regions.{Area, HasPoint}
 use Rattle.srs_plane.proofs.Ring_of_vertices.{few_halves}
 use Rattle.srs_crew.specs.Runs.{IsRun}

@@ -3,7 +3,7 @@ use Rattle.srs_plane.specs.declared.polygons.Vertex.{Vertex}
 use Rattle.srs_tree.specs.Tree.{History}
 use Rattle.srs_tree.specs.WholeTrees.{ListsWholeTree, IsWithin}
 use Rattle.srs_cert.specs.Certificates.{CertView}
-use Rattle.srs_cert.specs.Lives.{cert_of, live_text}
+use Rattle.srs_cert.specs.Lives.{live_text}
 use Rattle.srs_plane.specs.Polygons.{region_of}
 use Rattle.srs_tool.proofs.Living.{run_listed, live_run_of}
 use Rattle.srs_tool.proofs.live.text_of.Goals as goal
