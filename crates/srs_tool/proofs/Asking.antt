@@ -1,12 +1,13 @@
 -- Words ask for one command, whose numbers are in their ranges.
-use Rattle.std.proofs.Common.{◌≡◌, ℕ, ℤ, List, [], ◌∷◌, pos, refl, sym, ap₂, subst, ◌∙◌, Option, Some, None}
+use Rattle.std.proofs.Common.{◌≡◌, ℕ, ℤ, List, [], ◌∷◌, pos, refl, sym, ap₂, ◌∙◌, Option, Some, None}
 use Rattle.std.specs.Prelude.{if◌then◌else◌, eqb, sum, codes}
 use Rattle.std.proofs.lemmas.Option.{same_Some}
 use Rattle.srs_text.proofs.Spellings.{number_once}
 use Rattle.srs_line.specs.Fields.{AreNumbers}
+use Rattle.srs_path.specs.Views.{Budget}
 use Rattle.srs_tool.specs.declared.commands.Command.{Command}
-use Rattle.srs_tool.specs.declared.commands.Command.TheVariants.{Certify, Check, Map, Ask}
-use Rattle.srs_tool.specs.Words.{name_of, numbers_of, Asks}
+use Rattle.srs_tool.specs.declared.commands.Command.TheVariants.{Certify, Live, Check, Map, Ask}
+use Rattle.srs_tool.specs.Words.{name_of, numbers_of, Asks, AsksPlain}
 
 same_numbers : (ts : List (List ℕ)) (ys zs : List ℤ) → AreNumbers ts ys → AreNumbers ts zs → ys ≡ zs
 same_numbers [] [] [] h k = refl
@@ -20,6 +21,10 @@ abbrev certifying : List ℤ → Option Command
 certifying (pos depth ∷ pos cells ∷ pos wits ∷ []) = Some (Certify (record { depth = depth; cells = cells; wits = wits }))
 certifying _ = None
 
+abbrev living : List ℤ → Option Command
+living (pos depth ∷ pos cells ∷ pos wits ∷ pos workers ∷ []) = Some (Live (record { depth = depth; cells = cells; wits = wits }) workers)
+living _ = None
+
 abbrev drawing : List ℤ → Option Command
 drawing (pos columns ∷ pos rows ∷ []) = Some (Map columns rows)
 drawing _ = None
@@ -28,12 +33,14 @@ drawing _ = None
 abbrev named : ℕ → List ℤ → Option Command
 named key numbers =
     (if eqb key (sum (codes "certify")) then certifying numbers
+    else (if eqb key (sum (codes "live")) then living numbers
     else (if eqb key (sum (codes "check")) then Some Check
     else (if eqb key (sum (codes "map")) then drawing numbers
-    else (if eqb key (sum (codes "ask")) then Some Ask else None))))
+    else (if eqb key (sum (codes "ask")) then Some Ask else None)))))
 
 named_is : (c : Command) → named (sum (name_of c)) (numbers_of c) ≡ Some c
 named_is (Certify limits) = refl
+named_is (Live limits workers) = refl
 named_is Check = refl
 named_is (Map columns rows) = refl
 named_is Ask = refl
@@ -44,3 +51,14 @@ one_command (first ∷ others) c d h k =
     let names : sum (name_of c) ≡ sum (name_of d) = cc (h.0.0, k.0.0) in
     let numbers : numbers_of c ≡ numbers_of d = same_numbers others (numbers_of c) (numbers_of d) h.0.1 k.0.1 in
     same_Some c d (sym (named_is c) ∙ ap₂ named names numbers ∙ named_is d)
+
+pub one_plain_command : (words : List (List ℕ)) (c d : Command) → AsksPlain words c → AsksPlain words d → c ≡ d
+one_plain_command words c d h k = one_command words c d h.0 k.0
+
+-- where words don't ask for `live`, what they ask for starts no thread
+pub plain_asked : (words : List (List ℕ)) → ((b : Budget) (n : ℕ) → Asks words (Live b n) → ⊥) → (c : Command) → Asks words c → AsksPlain words c
+plain_asked words none (Certify limits) asked = (asked, tt)
+plain_asked words none (Live limits workers) asked = absurd (none limits workers asked)
+plain_asked words none Check asked = (asked, tt)
+plain_asked words none (Map columns rows) asked = (asked, tt)
+plain_asked words none Ask asked = (asked, tt)

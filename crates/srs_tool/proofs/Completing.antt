@@ -3,16 +3,15 @@ use Rattle.std.proofs.Common.{◌≡◌, inl, inr, ℕ, ◌≤◌, ◌+◌, List
 use Rattle.std.specs.Io.KnownBytes.{Consumes, IsAtEnd}
 use Rattle.std.proofs.lemmas.Option.{none-some, same_Some}
 use Rattle.srs_text.specs.Ends.{Rose}
-use Rattle.srs_check.specs.declared.faults.Fault.{Fault}
 use Rattle.srs_cert.specs.Certificates.{CertView}
 use Rattle.srs_tool.specs.declared.commands.Command.{Command}
 use Rattle.srs_tool.specs.declared.commands.Input.{Input}
-use Rattle.srs_tool.specs.declared.commands.Input.TheVariants.{Polygon, Certificate, Questions}
+use Rattle.srs_tool.specs.declared.commands.Input.TheVariants.{Polygon, Sessions, Certificate, Questions}
 use Rattle.srs_tool.specs.declared.status.Status.{Status}
 use Rattle.srs_tool.specs.declared.status.Status.TheVariants.{Done, Bad, Usage, NoMemory, ReadFault, WriteFault, Refused, TooLong}
 use Rattle.srs_tool.specs.Inputs.{input_of, longest, IsInput, HasCertificate, IsChecked}
 use Rattle.srs_tool.specs.Output.{EndsWell}
-use Rattle.srs_tool.specs.Ends.{ReadsToEnd, Answers, IsOverlong, EndsBy, Ends, IsGoodRun}
+use Rattle.srs_tool.specs.Ends.{Answers, IsOverlong, EndsBy, Ends, IsGoodRun}
 
 -- what was read to the end is what was there
 same_input : (left left_after : Option (List ℕ)) (input bytes : List ℕ) → left ≡ Some input → Consumes left left_after bytes → IsAtEnd left_after → bytes ≡ input
@@ -31,6 +30,7 @@ took_within (Some xs) (Some ys) input bytes held taken =
 -- an input with a certificate is one that is checked
 has_checked : (input : Input) (text : List ℕ) (c : CertView) → HasCertificate input text c → IsChecked input
 has_checked Polygon text c has = absurd has
+has_checked Sessions text c has = absurd has
 has_checked Certificate text c has = tt
 has_checked Questions text c has = tt
 

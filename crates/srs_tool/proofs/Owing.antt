@@ -1,8 +1,7 @@
 -- What is owed is what was written.
-use Rattle.std.proofs.Common.{◌≡◌, inl, inr, ℕ, List, refl, sym, subst, Option}
+use Rattle.std.proofs.Common.{◌≡◌, inl, inr, ℕ, List, refl, Option}
 use Rattle.std.specs.Prelude.{IfOk, Ok, Err}
 use Rattle.std.specs.declared.result.Result.{Result}
-use Rattle.srs_text.specs.Ends.{Rose, AppendsFront}
 use Rattle.srs_line.specs.declared.slip.Slip.{Slip}
 use Rattle.srs_cert.specs.Certificates.{CertView}
 use Rattle.srs_check.specs.declared.faults.Fault.{Fault}

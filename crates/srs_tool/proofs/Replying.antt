@@ -1,5 +1,5 @@
 -- The questions of a file can be asked, and the text grows by one reply.
-use Rattle.std.proofs.Common.{◌≡◌, inl, inr, ℕ, zero, suc, List, [], ◌∷◌, ◌++◌, slice_get, sym, ap, subst, ◌∙◌, append-nil, Some}
+use Rattle.std.proofs.Common.{◌≡◌, inl, inr, ℕ, zero, suc, List, [], ◌∷◌, ◌++◌, sym, ap, subst, ◌∙◌, append-nil}
 use Rattle.std.specs.List.{flat_map}
 use Rattle.std.specs.Prelude.{OnOk, Ok, Err}
 use Rattle.std.specs.declared.result.Result.{Result}

@@ -4,8 +4,8 @@ use Rattle.std.specs.Prelude.{IfNone}
 use Rattle.srs_line.specs.Fields.{AreNumbers}
 use Rattle.srs_path.specs.Views.{Budget, IsBudget}
 use Rattle.srs_tool.specs.declared.commands.Command.{Command}
-use Rattle.srs_tool.specs.declared.commands.Command.TheVariants.{Certify, Map}
-use Rattle.srs_tool.specs.Words.{limits_numbers, name_of, numbers_of, IsSide, Asks}
+use Rattle.srs_tool.specs.declared.commands.Command.TheVariants.{Certify, Live, Map}
+use Rattle.srs_tool.specs.Words.{limits_numbers, name_of, numbers_of, IsSide, SpellsCrew, Asks}
 
 -- what holds anyway holds of none
 pub if_none : {X Q : Type 0} (r : Option X) → Q → IfNone r Q
@@ -44,3 +44,12 @@ pub no_size : {X : Type 0} (words : List (List ℕ)) (first columns rows : List 
 no_size words first columns rows None is out =
     λ w h asked. let a = subst (λ (ws : List (List ℕ)). Asks ws (Map w h)) is asked in out w h a.0.1 a.1
 no_size words first columns rows (Some x) is out = tt
+
+-- where they spell no limits and number of workers, they don't ask for a live run
+pub no_order : {X : Type 0} (words : List (List ℕ)) (first depth cells wits workers : List ℕ) (r : Option X)
+    → words ≡ first ∷ depth ∷ cells ∷ wits ∷ workers ∷ []
+    → IfNone r ((b : Budget) (n : ℕ) → SpellsCrew (depth ∷ cells ∷ wits ∷ workers ∷ []) b n → ⊥)
+    → IfNone r ((b : Budget) (n : ℕ) → Asks words (Live b n) → ⊥)
+no_order words first depth cells wits workers None is out =
+    λ b n asked. let a = subst (λ (ws : List (List ℕ)). Asks ws (Live b n)) is asked in out b n (a.0.1, a.1)
+no_order words first depth cells wits workers (Some x) is out = tt

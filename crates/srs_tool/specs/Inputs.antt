@@ -2,20 +2,23 @@
 use Rattle.std.specs.Prelude.{⊤, ◌^◌, ℕ, List}
 use Rattle.srs_plane.specs.declared.polygons.Vertex.{Vertex}
 use Rattle.srs_tree.specs.declared.queries.Query.{Query}
+use Rattle.srs_tree.specs.declared.sessions.Segment.{Segment}
 use Rattle.srs_line.specs.declared.slip.Slip.{Slip}
 use Rattle.srs_cert.specs.Certificates.{CertView}
-use Rattle.srs_file.specs.Grammar.{SpellsPolygon, SpellsCertificate, SpellsAsk}
+use Rattle.srs_file.specs.Grammar.{SpellsPolygon, SpellsLive, SpellsCertificate, SpellsAsk}
 use Rattle.srs_file.specs.PolygonReading.{FirstSlip}
+use Rattle.srs_file.specs.LiveReading.{FirstLiveSlip}
 use Rattle.srs_file.specs.CertReading.{FirstCertSlip}
 use Rattle.srs_file.specs.AskReading.{FirstAskSlip}
 use Rattle.srs_tool.specs.declared.commands.Command.{Command}
-use Rattle.srs_tool.specs.declared.commands.Command.TheVariants.{Certify, Check, Map, Ask}
+use Rattle.srs_tool.specs.declared.commands.Command.TheVariants.{Certify, Live, Check, Map, Ask}
 use Rattle.srs_tool.specs.declared.commands.Input.{Input}
-use Rattle.srs_tool.specs.declared.commands.Input.TheVariants.{Polygon, Certificate, Questions}
+use Rattle.srs_tool.specs.declared.commands.Input.TheVariants.{Polygon, Sessions, Certificate, Questions}
 
 -- what the command reads
 abbrev pub input_of : Command → Input
 input_of (Certify limits) = Polygon
+input_of (Live limits workers) = Sessions
 input_of Check = Certificate
 input_of (Map columns rows) = Certificate
 input_of Ask = Questions
@@ -23,6 +26,7 @@ input_of Ask = Questions
 -- the longest such input that is read, in bytes
 abbrev pub longest : Input → ℕ
 longest Polygon = 2 ^ 20
+longest Sessions = 2 ^ 20
 longest Certificate = 2 ^ 27
 longest Questions = 2 ^ 27
 
@@ -30,26 +34,34 @@ longest Questions = 2 ^ 27
 abbrev pub HasQuestions : List ℕ → CertView → Type 0
 HasQuestions text c = (queries : List Query) × SpellsAsk text c queries
 
+-- the text is a polygon with these vertices, and sessions
+abbrev pub HasSessions : List ℕ → List Vertex → Type 0
+HasSessions text vertices = (script : List (List Segment)) × SpellsLive text vertices script
+
 -- the text is such an input
 abbrev pub IsInput : Input → List ℕ → Type 0
 IsInput Polygon text = (vertices : List Vertex) × SpellsPolygon text vertices
+IsInput Sessions text = (vertices : List Vertex) × HasSessions text vertices
 IsInput Certificate text = (c : CertView) × SpellsCertificate text c
 IsInput Questions text = (c : CertView) × HasQuestions text c
 
 -- the first slip of the text, and its line
 abbrev pub Slips : Input → List ℕ → ℕ → Slip → Type 0
 Slips Polygon text line slip = FirstSlip text line slip
+Slips Sessions text line slip = FirstLiveSlip text line slip
 Slips Certificate text line slip = FirstCertSlip text line slip
 Slips Questions text line slip = FirstAskSlip text line slip
 
 -- the text is such an input with this certificate, which is checked
 abbrev pub HasCertificate : Input → List ℕ → CertView → Type 0
 HasCertificate Polygon text c = ⊥
+HasCertificate Sessions text c = ⊥
 HasCertificate Certificate text c = SpellsCertificate text c
 HasCertificate Questions text c = HasQuestions text c
 
 -- such an input has a certificate
 abbrev pub IsChecked : Input → Type 0
 IsChecked Polygon = ⊥
+IsChecked Sessions = ⊥
 IsChecked Certificate = ⊤
 IsChecked Questions = ⊤

@@ -1,5 +1,5 @@
 -- What the program owes for an input that was read to its end: a status, and what it writes.
-use Rattle.std.specs.Prelude.{◌≡◌, ◌⊎◌, ℕ, List, ◌++◌, Contains, pos, codes}
+use Rattle.std.specs.Prelude.{◌≡◌, ◌⊎◌, ℕ, List, [], ◌++◌, Contains, pos, codes}
 use Rattle.std.specs.Fmt.{signed_decimal}
 use Rattle.srs_plane.specs.declared.polygons.Vertex.{Vertex}
 use Rattle.srs_plane.specs.Polygons.{region_of}
@@ -8,20 +8,23 @@ use Rattle.srs_path.specs.Views.{Budget, Entry}
 use Rattle.srs_path.specs.Soundness.{IsSound}
 use Rattle.srs_tree.specs.declared.queries.Query.{Query}
 use Rattle.srs_tree.specs.Tree.{History, outcome_at, region_at, IsPartition}
+use Rattle.srs_tree.specs.Legality.{IsLegal}
 use Rattle.srs_tree.specs.Rounds.{IsPlan}
 use Rattle.srs_line.specs.declared.slip.Slip.{Slip}
 use Rattle.srs_line.specs.Refusal.{slip_word}
 use Rattle.srs_cert.specs.Certificates.{CertView, IsTextOf}
-use Rattle.srs_file.specs.Grammar.{SpellsPolygon, SpellsCertificate, SpellsAsk}
+use Rattle.srs_cert.specs.Lives.{IsLiveTextOf}
+use Rattle.srs_file.specs.Grammar.{SpellsPolygon, SpellsLive, SpellsCertificate, SpellsAsk}
 use Rattle.srs_check.specs.declared.faults.Fault.{Fault}
 use Rattle.srs_check.specs.Proving.{IsProved}
 use Rattle.srs_check.specs.Faults.{counts_of, IsFirstFault}
 use Rattle.srs_check.specs.Certified.{IsCertified}
 use Rattle.srs_raster.specs.Maps.{IsMapText}
 use Rattle.srs_tool.specs.declared.commands.Command.{Command}
-use Rattle.srs_tool.specs.declared.commands.Command.TheVariants.{Certify, Check, Map, Ask}
+use Rattle.srs_tool.specs.declared.commands.Command.TheVariants.{Certify, Live, Check, Map, Ask}
 use Rattle.srs_tool.specs.declared.commands.Input.{Input}
 use Rattle.srs_tool.specs.Inputs.{input_of, IsInput, Slips, HasCertificate, IsChecked}
+use Rattle.srs_tool.specs.Lives.{HasNoMemory, DecidesInRounds, before_certificate}
 use Rattle.srs_tool.specs.Replies.{IsReplyText}
 use Rattle.srs_tool.specs.Verdicts.{valid_line, fault_line}
 use Rattle.srs_tool.specs.declared.status.Status.{Status}
@@ -53,6 +56,31 @@ pub record Certifies (b : Budget) (input output : List ℕ) : Type 0 where
   pub vertices : List Vertex
   pub polygon : SpellsPolygon input vertices
   pub certificate : IsCertificateOf vertices b output
+
+-- the text of a live run ends with the one certificate of the polygon, which `certify` prints
+pub record EndsWithCertificate (vertices : List Vertex) (b : Budget) (H : History) (text : List ℕ)
+    : Type 0 where
+  pub certificate : List ℕ
+  pub is : IsCertificateOf vertices b certificate
+  pub only : (other : List ℕ) → IsCertificateOf vertices b other → other ≡ certificate
+  pub written : text ≡ before_certificate H ++ certificate
+
+-- The text is that of a live run over the polygon, with a history that decides its region round by
+-- round; it is the text of no other. Its certificate lists the events of the history in preorder, and
+-- is that of `certify` where no cell was left for want of memory.
+pub record IsLiveRunOf (vertices : List Vertex) (b : Budget) (text : List ℕ) : Type 0 where
+  pub history : History
+  pub decides : DecidesInRounds (region_of vertices) b history
+  pub written : IsLiveTextOf vertices b history [] text
+  pub only : (ws : List Vertex) (c : Budget) (G : History) → IsLegal (region_of ws) c.wits G
+      → IsLiveTextOf ws c G [] text → (ws ≡ vertices) × (c ≡ b) × (G ≡ history)
+  pub certified : HasNoMemory history → EndsWithCertificate vertices b history text
+
+-- the input is a polygon with no sessions, and the output is the text of a live run over it
+pub record RunsLive (b : Budget) (input output : List ℕ) : Type 0 where
+  pub vertices : List Vertex
+  pub spelled : SpellsLive input vertices []
+  pub run : IsLiveRunOf vertices b output
 
 -- The input is a certificate, each node of which proves itself, and the output says so. So its leaves partition its
 -- polygon, each cut divides, and inside each point is finite, outside the printed pair recurs at each point.
@@ -101,6 +129,7 @@ pub record Refuses (input : Input) (text output : List ℕ) : Type 0 where
 -- what is written at Done
 abbrev pub OwesDone : Command → List ℕ → List ℕ → Type 0
 OwesDone (Certify limits) text output = Certifies limits text output
+OwesDone (Live limits workers) text output = RunsLive limits text output
 OwesDone Check text output = Validates text output
 OwesDone (Map columns rows) text output = Draws columns rows text output
 OwesDone Ask text output = Responds text output

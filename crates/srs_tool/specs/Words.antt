@@ -1,13 +1,14 @@
 -- The words of the command line.
-use Rattle.std.specs.Prelude.{◌≡◌, ⊤, ◌≤◌, ℕ, ℤ, List, [], ◌∷◌, pos, codes}
+use Rattle.std.specs.Prelude.{◌≡◌, ⊤, ◌≤◌, ℕ, ℤ, List, [], ◌∷◌, ◌++◌, pos, codes}
 use Rattle.srs_path.specs.Views.{Budget, IsBudget}
 use Rattle.srs_line.specs.Fields.{AreNumbers}
 use Rattle.srs_tool.specs.declared.commands.Command.{Command}
-use Rattle.srs_tool.specs.declared.commands.Command.TheVariants.{Certify, Check, Map, Ask}
+use Rattle.srs_tool.specs.declared.commands.Command.TheVariants.{Certify, Live, Check, Map, Ask}
 
 -- the first word
 abbrev pub name_of : Command → List ℕ
 name_of (Certify limits) = codes "certify"
+name_of (Live limits workers) = codes "live"
 name_of Check = codes "check"
 name_of (Map columns rows) = codes "map"
 name_of Ask = codes "ask"
@@ -16,9 +17,14 @@ name_of Ask = codes "ask"
 abbrev pub limits_numbers : Budget → List ℤ
 limits_numbers b = pos b.depth ∷ pos b.cells ∷ pos b.wits ∷ []
 
+-- limits and a number of workers as four numbers
+abbrev pub crew_numbers : Budget → ℕ → List ℤ
+crew_numbers b workers = limits_numbers b ++ pos workers ∷ []
+
 -- the numbers behind the first word
 abbrev pub numbers_of : Command → List ℤ
 numbers_of (Certify limits) = limits_numbers limits
+numbers_of (Live limits workers) = crew_numbers limits workers
 numbers_of Check = []
 numbers_of (Map columns rows) = pos columns ∷ pos rows ∷ []
 numbers_of Ask = []
@@ -27,9 +33,18 @@ numbers_of Ask = []
 abbrev pub IsSide : ℕ → Type 0
 IsSide n = (1 ≤ n) × (n ≤ 200)
 
+-- 1 to 16 workers
+abbrev pub IsCrew : ℕ → Type 0
+IsCrew workers = (1 ≤ workers) × (workers ≤ 16)
+
+-- the words spell limits and a number of workers that `live` takes
+abbrev pub SpellsCrew : List (List ℕ) → Budget → ℕ → Type 0
+SpellsCrew words b workers = AreNumbers words (crew_numbers b workers) × (IsBudget b × IsCrew workers)
+
 -- the numbers are ones that the command takes
 abbrev pub IsInRange : Command → Type 0
 IsInRange (Certify limits) = IsBudget limits
+IsInRange (Live limits workers) = IsBudget limits × IsCrew workers
 IsInRange Check = ⊤
 IsInRange (Map columns rows) = IsSide columns × IsSide rows
 IsInRange Ask = ⊤
@@ -42,3 +57,15 @@ AreWords (first ∷ others) name numbers = (first ≡ name) × AreNumbers others
 -- the words ask for the command
 abbrev pub Asks : List (List ℕ) → Command → Type 0
 Asks words command = AreWords words (name_of command) (numbers_of command) × IsInRange command
+
+-- the command starts no thread
+abbrev pub IsPlain : Command → Type 0
+IsPlain (Certify limits) = ⊤
+IsPlain (Live limits workers) = ⊥
+IsPlain Check = ⊤
+IsPlain (Map columns rows) = ⊤
+IsPlain Ask = ⊤
+
+-- the words ask for the command, which starts no thread
+abbrev pub AsksPlain : List (List ℕ) → Command → Type 0
+AsksPlain words command = Asks words command × IsPlain command

@@ -9,6 +9,9 @@ use srs_path::Limits;
 pub enum Command {
     /// To divide the polygon that is read, and print its certificate.
     Certify(Limits),
+    /// To divide the polygon that is read by so many workers beside each other, 1 to 16, and print the journal and the
+    /// certificate.
+    Live(Limits, u32),
     /// To check the certificate that is read.
     Check,
     /// To check the certificate that is read, and print its map: so many columns and rows, each 1 to 200.
@@ -24,6 +27,7 @@ impl Command {
     {
         match self {
             Command::Certify(_) => Input::Polygon,
+            Command::Live(_, _) => Input::Sessions,
             Command::Check | Command::Map(_, _) => Input::Certificate,
             Command::Ask => Input::Questions,
         }
@@ -35,6 +39,8 @@ impl Command {
 pub enum Input {
     /// A polygon: at most 2^20 bytes.
     Polygon,
+    /// A polygon and sessions behind it, of which there are none yet: at most 2^20 bytes.
+    Sessions,
     /// A certificate: at most 2^27 bytes.
     Certificate,
     /// A certificate and questions behind it: at most 2^27 bytes.
@@ -47,7 +53,7 @@ impl Input {
         ensures { result ≡ longest self }
     {
         match self {
-            Input::Polygon => 1 << 20,
+            Input::Polygon | Input::Sessions => 1 << 20,
             Input::Certificate | Input::Questions => 1 << 27,
         }
     }

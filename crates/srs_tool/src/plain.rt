@@ -2,7 +2,7 @@
 ghost use Rattle.std.specs.Prelude.{◌≡◌, ◌≢◌, ◌⊎◌, ◌≤◌, length, map, string_bytes, IfOk, IfErr};
 ghost use Rattle.srs_text.specs.Ends.{Rose};
 ghost use Rattle.srs_tool.specs.declared.commands.Command.{Command};
-ghost use Rattle.srs_tool.specs.Words.{Asks, IsInRange};
+ghost use Rattle.srs_tool.specs.Words.{AsksPlain, IsPlain, IsInRange};
 ghost use Rattle.srs_tool.specs.Inputs.{input_of, longest};
 ghost use Rattle.srs_tool.specs.Output.{Owes, EndsWell};
 ghost use Rattle.srs_tool.specs.Ends.{Ends, EndsBy, IsGoodRun, WritesNothing};
@@ -14,12 +14,13 @@ use crate::commands::Command;
 use crate::map::draw;
 use crate::output::{Output, say};
 use crate::status::Status;
-use crate::words::command_of;
+use crate::words::plain_command;
 use srs_num::NoMemory;
 use srs_text::{ReadErr, Sink, Source, read_all};
 use std::alloc::Global;
 
-/// Does what the words ask for: reads the source, and writes to the sink.
+/// Does what the words ask for, where that starts no thread: reads the source, and writes to the sink. The words of `live`
+/// are answered with `Usage`, as words in no form are.
 ///
 /// At `Done` the source was read to its end, and what the command owes was written. `certify`: the bytes are the text of
 /// a polygon, and its certificate was written, which lists the plan of its region. The leaves of the plan partition the
@@ -40,17 +41,17 @@ pub fn plain<S: Source, K: Sink>(
     sink: &mut K,
 ) -> Status
     ensures usage { result ≡ Status.Usage → (command : Command) →
-        Asks (map string_bytes words.now) command → ⊥ }
+        AsksPlain (map string_bytes words.now) command → ⊥ }
     ensures idle { result ≡ Status.Usage → (source.new ≡ source.old) × (sink.new ≡ sink.old) }
-    ensures ends { result ≢ Status.Usage → Ends Asks (map string_bytes words.now) result
+    ensures ends { result ≢ Status.Usage → Ends AsksPlain (map string_bytes words.now) result
         (S.left source.old) (S.left source.new) (S.faults source.old) (S.faults source.new)
         (K.got sink.old) (K.got sink.new) (K.faults sink.old) (K.faults sink.new) }
     ensures unwritten { WritesNothing result → sink.new ≡ sink.old }
-    ensures complete { (good : IsGoodRun Asks (map string_bytes words.now) (S.left source.old)) →
+    ensures complete { (good : IsGoodRun AsksPlain (map string_bytes words.now) (S.left source.old)) →
         ¬ (Rose (S.faults source.old) (S.faults source.new)) →
         ¬ (Rose (K.faults sink.old) (K.faults sink.new)) → EndsWell good.command result }
 {
-    match command_of(words) {
+    match plain_command(words) {
         Some(command) => read_and_answer(alloc, &command, source, sink),
         None => Status::Usage,
     }
@@ -63,7 +64,8 @@ fn read_and_answer<S: Source, K: Sink>(
     source: &mut S,
     sink: &mut K,
 ) -> Status
-    requires { IsInRange command.now }
+    requires range { IsInRange command.now }
+    requires plain { IsPlain command.now }
     ensures other { result ≢ Status.Usage }
     ensures ends { EndsBy command.now result
         (S.left source.old) (S.left source.new) (S.faults source.old) (S.faults source.new)
@@ -84,6 +86,7 @@ fn read_and_answer<S: Source, K: Sink>(
 // What is owed for an input that was read to its end. An `Err` is want of memory.
 fn answer(alloc: Global, command: &Command, input: &[u8]) -> Result<Output, NoMemory>
     requires range { IsInRange command.now }
+    requires plain { IsPlain command.now }
     requires short { length input.now ≤ longest (input_of command.now) }
     ensures { IfOk result (λ o. Owes command.now input.now o.status o.text) }
 {
@@ -92,5 +95,6 @@ fn answer(alloc: Global, command: &Command, input: &[u8]) -> Result<Output, NoMe
         Command::Check => check(alloc, input),
         Command::Map(columns, rows) => draw(alloc, *columns, *rows, input),
         Command::Ask => ask(alloc, input),
+        Command::Live(_, _) => unreachable!(),
     }
 }

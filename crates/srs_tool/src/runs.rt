@@ -1,9 +1,13 @@
-// Runs of `plain` over memory, for the tests of the commands.
+// Runs of `plain` and `run` over memory, for the tests of the commands.
 use crate::plain::plain;
+use crate::run::run;
 use crate::status::Status;
+use srs_session::FreeGate;
 use srs_text::{Bytes, MemSink, MemSource, Nums};
 use std::alloc::{AllocError, Global};
+use std::sync::Wait;
 use std::test::Fail;
+use std::thread::Threads;
 
 // The room of a sink, in bytes.
 const ROOM: u64 = 1 << 26;
@@ -31,16 +35,7 @@ pub(crate) fn failing(
     write: i64,
 ) -> Result<Seen, Fail> {
     let words = words_of(alloc, words)?;
-    let mut text = Bytes::new(alloc);
-    for piece in input {
-        text.extend(piece)?;
-    }
-    let mut reads = Nums::new(alloc);
-    reads.push(read)?;
-    let mut writes = Nums::new(alloc);
-    writes.push(write)?;
-    let mut source = MemSource::new(text, reads);
-    let mut sink = MemSink::new(alloc, ROOM, writes)?;
+    let (mut source, mut sink) = ends_of(alloc, input, read, write)?;
     let status = plain(alloc, words.as_slice(), &mut source, &mut sink);
     Ok(Seen {
         status,
@@ -52,6 +47,63 @@ pub(crate) fn failing(
 /// The run on these words and this input, which comes in pieces.
 pub(crate) fn play(alloc: Global, words: &str, input: &[&[u8]]) -> Result<Seen, Fail> {
     failing(alloc, words, input, NEVER, NEVER)
+}
+
+/// The same by the top call, which may start threads.
+pub(crate) fn failing_top<R: Threads + Wait + Sync>(
+    rt: &R,
+    alloc: Global,
+    words: &str,
+    input: &[&[u8]],
+    read: i64,
+    write: i64,
+) -> Result<Seen, Fail> {
+    let words = words_of(alloc, words)?;
+    let (mut source, mut sink) = ends_of(alloc, input, read, write)?;
+    let status = run(
+        rt,
+        alloc,
+        words.as_slice(),
+        &mut source,
+        &mut sink,
+        &FreeGate,
+    );
+    Ok(Seen {
+        status,
+        sink,
+        source,
+    })
+}
+
+/// The run of the top call on these words and this input, which comes in pieces.
+pub(crate) fn play_top<R: Threads + Wait + Sync>(
+    rt: &R,
+    alloc: Global,
+    words: &str,
+    input: &[&[u8]],
+) -> Result<Seen, Fail> {
+    failing_top(rt, alloc, words, input, NEVER, NEVER)
+}
+
+// A source with this input, one read of which fails, and a sink, one write to which fails.
+fn ends_of(
+    alloc: Global,
+    input: &[&[u8]],
+    read: i64,
+    write: i64,
+) -> Result<(MemSource, MemSink), Fail> {
+    let mut text = Bytes::new(alloc);
+    for piece in input {
+        text.extend(piece)?;
+    }
+    let mut reads = Nums::new(alloc);
+    reads.push(read)?;
+    let mut writes = Nums::new(alloc);
+    writes.push(write)?;
+    Ok((
+        MemSource::new(text, reads),
+        MemSink::new(alloc, ROOM, writes)?,
+    ))
 }
 
 fn words_of(alloc: Global, line: &str) -> Result<Vec<String>, AllocError> {

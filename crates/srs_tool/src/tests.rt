@@ -9,8 +9,8 @@ use std::test::Fail;
 
 const CYCLE_ONE: &[u8] = b"polygon 3\nge -2 -1 4\nge -1 -2 4\nge -1 -1 4\nend\n";
 
-// Words in no form.
-const UNKNOWN: [&str; 29] = [
+// Words in no form, and those of `live`, which `plain` does not know.
+const UNKNOWN: [&str; 30] = [
     "certify 0 1 0",
     "certify 0 1 16385",
     "certify 0 1 016",
@@ -38,6 +38,7 @@ const UNKNOWN: [&str; 29] = [
     "ask 1",
     "Ask",
     "ask map 4 4",
+    "live 0 1 16 1",
     "",
     "--help",
 ];

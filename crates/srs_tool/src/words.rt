@@ -4,17 +4,18 @@ ghost use Rattle.srs_text.specs.Spelling.{IsNumber};
 ghost use Rattle.srs_path.specs.Views.{Budget, IsBudget};
 ghost use Rattle.srs_line.specs.Fields.{AreNumbers};
 ghost use Rattle.srs_tool.specs.declared.commands.Command.{Command};
-ghost use Rattle.srs_tool.specs.declared.commands.Command.TheVariants.{Certify, Map};
-ghost use Rattle.srs_tool.specs.Words.{limits_numbers, IsSide, Asks};
+ghost use Rattle.srs_tool.specs.declared.commands.Command.TheVariants.{Certify, Live, Map};
+ghost use Rattle.srs_tool.specs.Words.{limits_numbers, IsSide, IsCrew, SpellsCrew, Asks, AsksPlain};
 
 use crate::commands::Command;
 use srs_path::Limits;
 use srs_text::number;
 
-/// The command that the words ask for, where they are in one of the forms that the program knows.
-pub fn command_of(words: &[String]) -> Option<Command>
-    ensures some { IfSome result (Asks (map string_bytes words.now)) }
-    ensures none { IfNone result ((command : Command) → Asks (map string_bytes words.now) command → ⊥) }
+/// The command without threads that the words ask for, where they are in the form of one.
+pub fn plain_command(words: &[String]) -> Option<Command>
+    ensures some { IfSome result (AsksPlain (map string_bytes words.now)) }
+    ensures none { IfNone result ((command : Command) →
+        AsksPlain (map string_bytes words.now) command → ⊥) }
 {
     if is_alone(words, "check") {
         return Some(Command::Check);
@@ -29,6 +30,50 @@ pub fn command_of(words: &[String]) -> Option<Command>
         Some(limits) => Some(Command::Certify(limits)),
         None => None,
     }
+}
+
+/// The limits and the number of workers of the `live` that the words ask for, where they do.
+pub fn live_order(words: &[String]) -> Option<(Limits, u32)>
+    ensures some { IfSome result (λ r. Asks (map string_bytes words.now) (Live r.0 r.1)) }
+    ensures none { IfNone result ((b : Budget) (n : ℕ) →
+        Asks (map string_bytes words.now) (Live b n) → ⊥) }
+{
+    let [name, depth, cells, wits, workers] = words else {
+        return None;
+    };
+    if !is_word(name.as_str(), "live") {
+        return None;
+    }
+    crew_of(
+        depth.as_bytes(),
+        cells.as_bytes(),
+        wits.as_bytes(),
+        workers.as_bytes(),
+    )
+}
+
+// The limits and the number of workers that four words spell.
+fn crew_of(depth: &[u8], cells: &[u8], wits: &[u8], workers: &[u8]) -> Option<(Limits, u32)>
+    ensures some { IfSome result (λ r.
+        SpellsCrew (depth.now ∷ cells.now ∷ wits.now ∷ workers.now ∷ []) r.0 r.1) }
+    ensures none { IfNone result ((b : Budget) (n : ℕ) →
+        SpellsCrew (depth.now ∷ cells.now ∷ wits.now ∷ workers.now ∷ []) b n → ⊥) }
+{
+    let limits = limits_of(depth, cells, wits)?;
+    let crew = workers_of(workers)?;
+    Some((limits, crew))
+}
+
+// A number from 1 to 16.
+fn workers_of(text: &[u8]) -> Option<u32>
+    ensures some { IfSome result (λ n. IsNumber text.now (pos n) × IsCrew n) }
+    ensures none { IfNone result ((n : ℕ) → IsNumber text.now (pos n) → IsCrew n → ⊥) }
+{
+    let n = number(text)?;
+    if n < 1 || n > 16 {
+        return None;
+    }
+    Some(n as u32)
 }
 
 // Whether the one word is this one.
@@ -89,7 +134,8 @@ fn side_of(text: &[u8]) -> Option<u32>
 // The limits behind `certify`.
 fn certify_limits(words: &[String]) -> Option<Limits>
     ensures some { IfSome result (λ b. Asks (map string_bytes words.now) (Certify b)) }
-    ensures none { IfNone result ((b : Budget) → Asks (map string_bytes words.now) (Certify b) → ⊥) }
+    ensures none { IfNone result ((b : Budget) →
+        Asks (map string_bytes words.now) (Certify b) → ⊥) }
 {
     let [name, depth, cells, wits] = words else {
         return None;

@@ -1,10 +1,13 @@
-use Rattle.srs_tool.specs.Words.{Asks}
-use Rattle.srs_tool.proofs.Asking.{one_command}
+use Rattle.srs_tool.specs.Words.{AsksPlain}
+use Rattle.srs_tool.proofs.Asking.{one_plain_command}
 use Rattle.srs_tool.proofs.Completing.{completes}
 use Rattle.srs_tool.proofs.plain.plain.Goals as goal
 
-pub read_and_answer-requires : goal.read_and_answer-requires
-read_and_answer-requires g c = c.in-Some.ensures.some.1
+pub read_and_answer-requires-clause-range : goal.read_and_answer-requires-clause-range
+read_and_answer-requires-clause-range g c = c.in-Some.ensures.some.0.1
+
+pub read_and_answer-requires-clause-plain : goal.read_and_answer-requires-clause-plain
+read_and_answer-requires-clause-plain g c = c.in-Some.ensures.some.1
 
 pub returns-in-Some-clause-ends : goal.returns-in-Some-clause-ends
 returns-in-Some-clause-ends g c other =
@@ -12,7 +15,7 @@ returns-in-Some-clause-ends g c other =
 
 pub returns-in-Some-clause-complete : goal.returns-in-Some-clause-complete
 returns-in-Some-clause-complete g c good =
-    completes Asks _ _ _ _ _ (one_command _) good _ _ _ _ _
+    completes AsksPlain _ _ _ _ _ (one_plain_command _) good _ _ _ _ _
     (record { command = c.in-Some.command; asked = c.in-Some.ensures.some; end = c.read_and_answer.ensures.ends })
 
 pub returns-in-None-clause-complete : goal.returns-in-None-clause-complete

@@ -1,0 +1,68 @@
+-- The text of a live run.
+use Rattle.std.proofs.Common.{◌≡◌, ℕ, List, [], take, drop, refl, sym, ap, subst, ◌∙◌, take-append-drop}
+use Rattle.srs_plane.specs.declared.polygons.Vertex.{Vertex}
+use Rattle.srs_plane.specs.Polygons.{region_of}
+use Rattle.srs_plane.specs.Regions.{Area, HasPoint}
+use Rattle.srs_path.specs.Views.{Budget, IsBudget}
+use Rattle.srs_tree.specs.declared.queries.Said.{Said}
+use Rattle.srs_tree.specs.declared.sessions.Run.{Run}
+use Rattle.srs_tree.specs.Tree.{History, outcome_at, IsPartition}
+use Rattle.srs_tree.specs.Legality.{IsLegal}
+use Rattle.srs_tree.specs.Snapshots.{Snapshot, StandsFor}
+use Rattle.srs_tree.specs.Preorder.{preorder_of}
+use Rattle.srs_tree.specs.Rounds.{IsWhole, IsInRounds}
+use Rattle.srs_tree.specs.WholeTrees.{ListsWholeTree, IsWithin}
+use Rattle.srs_tree.proofs.Listed.{listed}
+use Rattle.srs_tree.proofs.PartitionAll.{IsPartition-first}
+use Rattle.srs_cert.specs.Certificates.{CertView, IsCertificate, cert_text}
+use Rattle.srs_cert.specs.Lives.{cert_of, live_text, IsLiveTextOf, LiveTextIsOne}
+use Rattle.srs_crew.specs.Runs.{IsRun}
+use Rattle.srs_tool.specs.Lives.{HasNoMemory, DecidesInRounds}
+use Rattle.srs_tool.specs.Output.{IsCertificateOf, EndsWithCertificate, IsLiveRunOf}
+use Rattle.srs_tool.proofs.Certifying.{events_sound, plan_decides, one_certificate_of}
+
+-- in preorder the events of a run list a whole tree within the limits
+pub run_listed : (b : Budget) (R : Area) (run : Run) → IsBudget b → IsRun R b run → ListsWholeTree (preorder_of run.version) × IsWithin b (preorder_of run.version)
+run_listed b R run budget is = listed R b run.journal run.version budget is.whole is.stands
+
+module _ (vs : List Vertex) (b : Budget) (H : History) (v : Snapshot) (point : HasPoint (region_of vs)) (whole : IsWhole (region_of vs) b H) (stands : StandsFor (region_of vs) H v) where
+  abbrev Root : Area
+  Root = region_of vs
+
+  partition_at : (k : ℕ) → IsPartition Root (outcome_at (take k H))
+  partition_at k = IsPartition-first Root b.wits (take k H) (drop k H) point (subst (IsLegal Root b.wits) (sym (take-append-drop k H)) whole.legal)
+
+  pub decides_in_rounds : IsInRounds H → DecidesInRounds Root b H
+  decides_in_rounds rounds = record { whole = whole; in_rounds = rounds; partitions = partition_at; sound = events_sound Root b.wits H whole.legal }
+
+  -- where no cell was left for want of memory, the history is the plan, and so its certificate is that of the plan
+  planned_text : HasNoMemory H → IsCertificateOf vs b (cert_text (cert_of vs b v))
+  planned_text none = record {
+    history = H;
+    decides = plan_decides Root b H point (record { whole = whole; no_memory = none });
+    written = record { snapshot = v; stands = stands; written = refl };
+  }
+
+  pub ends_with_certificate : HasNoMemory H → (text : List ℕ) → text ≡ live_text H [] (cert_of vs b v) → EndsWithCertificate vs b H text
+  ends_with_certificate none text written = record {
+    certificate = cert_text (cert_of vs b v);
+    is = planned_text none;
+    only = λ other is. one_certificate_of vs b other (cert_text (cert_of vs b v)) is (planned_text none);
+    written = written;
+  }
+
+pub live_run_of : LiveTextIsOne → (vs : List Vertex) (b : Budget) (run : Run) (cert : CertView) (text : List ℕ) → HasPoint (region_of vs) → IsRun (region_of vs) b run
+    → cert ≡ cert_of vs b run.version → IsCertificate cert → text ≡ live_text run.journal run.transcripts cert → IsLiveRunOf vs b text
+live_run_of law vs b run cert text point is same certificate printed = record {
+  history = run.journal;
+  decides = decides_in_rounds vs b run.journal run.version point is.whole is.stands is.in_rounds;
+  written = live;
+  only = λ ws c G legal other. law ws vs c b G run.journal text legal is.whole.legal other live;
+  certified = λ none. ends_with_certificate vs b run.journal run.version point is.whole is.stands none text written;
+}
+  where
+    written : text ≡ live_text run.journal [] (cert_of vs b run.version)
+    written = printed ∙ ap (λ (told : List (List Said)). live_text run.journal told cert) is.untold ∙ ap (live_text run.journal []) same
+
+    live : IsLiveTextOf vs b run.journal [] text
+    live = record { snapshot = run.version; stands = is.stands; certificate = subst IsCertificate same certificate; written = written }
