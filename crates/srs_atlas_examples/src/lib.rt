@@ -1,4 +1,4 @@
-//! Worked examples of the calls of an atlas, by one thread and by several.
+//! Worked examples of the calls of an atlas, by one thread and by several, and of trees that grow in place.
 #![tactic(auto)]
 
 #[cfg(test)]
@@ -11,3 +11,5 @@ mod commits;
 mod plans;
 #[cfg(test)]
 mod threads;
+#[cfg(test)]
+mod trees;
