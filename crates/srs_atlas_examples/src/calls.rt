@@ -35,9 +35,10 @@ fn first_other<R: Wait>(
     requires free { atlas.now.fixed.plan ≡ None }
     ensures { IsPassOf atlas.now pass.new }
 {
-    for (i, (sides, side, wanted)) in rows.iter().enumerate() {
-        let cell = part(alloc, &SPLIT, *side)?;
-        if committed(rt, alloc, atlas, pass, path_of(sides)?, &cell) != *wanted {
+    for i in 0..rows.len() {
+        let (sides, side, wanted) = rows[i];
+        let cell = part(alloc, &SPLIT, side)?;
+        if committed(rt, alloc, atlas, pass, path_of(sides)?, &cell) != wanted {
             return Ok(Some(i));
         }
     }

@@ -33,8 +33,14 @@ fn committed_root<R: Wait>(
     }
 }
 
-// How many cells there are down to a length of path and of that length, in each of three lengths.
-const COUNTS: [(u64, u64); 3] = [(1, 1), (3, 2), (3, 0)];
+// How many cells there are on paths of this length at most, and of this length.
+fn counts_at<R: Wait>(rt: &R, atlas: &Atlas, pass: &mut AtlasPass, round: u32) -> (u64, u64)
+    requires { IsPassOf atlas.now pass.old }
+    ensures { IsPassOf atlas.now pass.new }
+{
+    let counts = atlas.counts(rt, pass, round);
+    (counts.cells, counts.row)
+}
 
 #[test]
 fn root_of_a_plan(rt: HostRuntime) -> Result<(), Fail> {
@@ -48,10 +54,9 @@ fn root_of_a_plan(rt: HostRuntime) -> Result<(), Fail> {
         committed_root(&rt, alloc, &atlas, &mut pass, &limits, &root),
         Told::Done(1)
     );
-    for (round, wanted) in COUNTS.iter().enumerate() {
-        let counts = atlas.counts(&rt, &mut pass, round as u32);
-        assert_eq!(rt; (counts.cells, counts.row), *wanted);
-    }
+    assert_eq!(rt; counts_at(&rt, &atlas, &mut pass, 0), (1, 1));
+    assert_eq!(rt; counts_at(&rt, &atlas, &mut pass, 1), (3, 2));
+    assert_eq!(rt; counts_at(&rt, &atlas, &mut pass, 2), (3, 0));
     let (version, events) = atlas.finish(&rt, pass);
     assert_eq!(rt; (version.count(), events.len()), (1, 1));
     Ok(())

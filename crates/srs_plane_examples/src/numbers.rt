@@ -150,18 +150,6 @@ fn sums_of_corners(rt: HostRuntime) {
     assert_eq!(rt; middle(), Some((6, -1, 3)));
 }
 
-// The corners (2, 3) and (4, -4)/2 added up.
-fn added() -> Option<(i128, i128, i128)> {
-    let first = cross(&Form::new(1, 0, -2)?, &Form::new(0, 1, -3)?)?;
-    let second = cross(&Form::new(1, 1, 0)?, &Form::new(1, -1, -4)?)?;
-    Some(first.plus(&second).parts())
-}
-
-#[test]
-fn corners_added(rt: HostRuntime) {
-    assert_eq!(rt; added(), Some((6, -1, 3)));
-}
-
 // Whether a copy of the pairs has them in their order.
 fn is_copied(alloc: Global, pairs: &[V2]) -> Result<bool, Fail> {
     let copy = Pairs::from_slice(alloc, pairs)?;
