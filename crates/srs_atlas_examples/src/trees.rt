@@ -11,33 +11,41 @@ fn is_root(cell: &Pending) -> bool {
     cell.path.same(&Path::root()) && cell.cell.region().len() == 3
 }
 
-// A version of the tree before the root has its outcome, one after that, and the version at the end.
-fn versions(alloc: Global) -> Result<[Version; 3], Fail> {
-    let root = cell_of(alloc, &SPLIT)?;
-    let finding = refine(alloc, &root, Some(Last::Depth), 16)?;
-    let mut tree = GrowingTree::start(alloc, root)?;
-    if !is_root(&tree.root()?) {
-        Err("the root waits")?;
-    }
-    let before = tree.version(alloc)?;
+// Whether the version's root is the cell, how many outcomes it has, and whether the root has one.
+fn told(version: &Version) -> Result<(bool, u64, bool), Fail> {
+    let root = version.root()?;
+    let found = version.outcome(Path::root()).is_some();
+    Ok((is_root(&root), version.count(), found))
+}
+
+// The outcome of the root is entered.
+fn enter(alloc: Global, tree: &mut GrowingTree) -> Result<(), Fail> {
+    let finding = refine(alloc, &cell_of(alloc, &SPLIT)?, Some(Last::Depth), 16)?;
     if tree.enter(alloc, Path::root(), finding).is_err() {
         Err("it is entered")?;
     }
-    let after = tree.version(alloc)?;
-    Ok([before, after, tree.finish()])
+    Ok(())
 }
 
 #[test]
 fn versions_of_a_tree(rt: HostRuntime) -> Result<(), Fail> {
-    let [before, after, last] = versions(rt.alloc())?;
-    assert_eq!(rt; [before.count(), after.count(), last.count()], [0, 1, 1]);
-    assert!(rt; is_root(&before.root()?) && is_root(&last.root()?));
-    assert!(rt; before.outcome(Path::root()).is_none() && last.outcome(Path::root()).is_some());
+    let alloc = rt.alloc();
+    let mut tree = GrowingTree::start(alloc, cell_of(alloc, &SPLIT)?)?;
+    let root = tree.root()?;
+    let before = tree.version(alloc)?;
+    enter(alloc, &mut tree)?;
+    let after = tree.version(alloc)?;
+    let last = tree.finish();
+    assert!(rt; is_root(&root));
+    assert_eq!(rt; told(&before)?, (true, 0, false));
+    assert_eq!(rt; told(&after)?, (true, 1, true));
+    assert_eq!(rt; told(&last)?, (true, 1, true));
     Ok(())
 }
 
 #[test]
 fn answer_of_a_leaf(rt: HostRuntime) {
     let left = Outcome::Left(Cause::Thin);
-    assert!(rt; matches!(Answer::of(&left), Answer::Undecided(Some(Cause::Thin))));
+    let answer = Answer::of(&left);
+    assert!(rt; matches!(answer, Answer::Undecided(Some(Cause::Thin))));
 }
