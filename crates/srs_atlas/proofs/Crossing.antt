@@ -5,6 +5,10 @@ use Rattle.srs_path.specs.contracts.events.Event as event
 use Rattle.srs_tree.proofs.Crossing.{path_send, path_sync, outcome_send, outcome_sync, growing_send, growing_sync}
 use Rattle.srs_atlas.specs.contracts.book.Book as book
 use Rattle.srs_atlas.specs.contracts.atlas.Atlas as atlas
+use Rattle.srs_atlas.specs.contracts.book.BookTold.TheImpl as told
+use Rattle.srs_atlas.specs.contracts.book.Terms as terms
+use Rattle.srs_turn.specs.contracts.turn.Pass as pass
+use Rattle.atomic_table.proofs.shared.Seat.TheSendSync as seat
 use Rattle.atomic_table.proofs.shared.Shared.TheSendSync as shared
 use Rattle.atomic_table.proofs.send_lease.SendLease.TheSendSync as lease
 
@@ -28,3 +32,6 @@ atlas_send = search (sendable, crosses, tables, book_send, book_sync) depth 30
 
 pub atlas_sync : IsSync atlas.the_row
 atlas_sync = search (sendable, crosses, tables, book_send, book_sync) depth 30
+
+pub pass_send : IsSend (pass.the_row book.the_row event.the_row terms.the_row told.ghosts)
+pass_send = search (sendable, crosses, seat.the_send, book_send, book_sync) depth 20
