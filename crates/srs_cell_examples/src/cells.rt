@@ -290,3 +290,11 @@ fn links_on_cells(rt: HostRuntime) -> Result<(), Fail> {
     assert_eq!(rt; first_other_link(rt.alloc(), &LINKS)?, None);
     Ok(())
 }
+
+#[test]
+fn spans_of_pairs(rt: HostRuntime) {
+    let span = Span { low: -2, high: 3 };
+    assert_eq!(rt; (span.count(), Span { low: 1, high: 0 }.count()), (6, 0));
+    let pair = span.pair(V2 { a: 7, b: 9 }, 5);
+    assert_eq!(rt; (pair.a, pair.b), (9, 3));
+}

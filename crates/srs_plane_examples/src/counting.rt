@@ -3,7 +3,7 @@ ghost use Rattle.std.specs.Prelude.{◌≡◌, ◌<◌};
 
 use crate::polygons::with_first_open;
 use srs_num::{Form, Pt, Steps};
-use srs_plane::Region;
+use srs_plane::{Half, Kind, Region};
 use std::marker::Brand;
 use std::sync::ledger::{Blank, Ledger};
 use std::test::Fail;
@@ -52,6 +52,41 @@ fn value<L: Ledger>(form: &Form, r: &Pt, blank: Blank) -> i128
 {
     let mut steps = Steps::<L>::new(blank);
     form.at(r, &mut steps)
+}
+
+// Whether the half holds the point.
+fn half_holds<L: Ledger>(half: &Half, r: &Pt, blank: Blank) -> bool
+    requires name { blank.name ≡ L.name }
+    requires parts { blank.parts ≡ L.parts }
+    requires some { 0 < blank.parts }
+{
+    let mut steps = Steps::<L>::new(blank);
+    half.holds(r, &mut steps)
+}
+
+// Whether the half of x + y >= 0, and that without its line, hold the point (p / d, q / d).
+fn held_by_halves(p: i64, q: i64, d: i64) -> Option<(bool, bool)> {
+    let r = Pt::new(p, q, d)?;
+    let form = Form::new(1, 1, 0)?;
+    let closed = Half {
+        form,
+        kind: Kind::Ge,
+    };
+    let open = Half {
+        form,
+        kind: Kind::Gt,
+    };
+    Some((
+        half_holds::<Brand>(&closed, &r, Blank::new(1)),
+        half_holds::<Brand>(&open, &r, Blank::new(1)),
+    ))
+}
+
+#[test]
+fn points_at_a_line(rt: HostRuntime) {
+    assert_eq!(rt; held_by_halves(1, -1, 8), Some((true, false)));
+    assert_eq!(rt; held_by_halves(2, -1, 8), Some((true, true)));
+    assert_eq!(rt; held_by_halves(1, -2, 8), Some((false, false)));
 }
 
 // Whether the region holds the point, where it is one.

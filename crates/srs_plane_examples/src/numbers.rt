@@ -1,7 +1,9 @@
 // Quotients, forms and corners.
 ghost use Rattle.std.specs.Prelude.{pos, ◌≤ℤ◌};
 
-use srs_num::{Corner, Form, Pairs, V2, ceil_div, cross, floor_div, is_less_quotient, sum};
+use srs_num::{
+    Corner, Form, Pairs, V2, ceil_div, cross, crossing_of, floor_div, is_less_quotient, sum, turn,
+};
 use std::alloc::Global;
 use std::test::Fail;
 
@@ -102,6 +104,24 @@ fn first_other_crossing(rows: &[Crossing]) -> Option<usize> {
 #[test]
 fn lines_that_cross(rt: HostRuntime) {
     assert_eq!(rt; first_other_crossing(&CROSSINGS), None);
+}
+
+// How the line of the first form turns to that of the second, and where they cross if that is to the left.
+fn turned(f: (i64, i64, i64), g: (i64, i64, i64)) -> Option<(i128, Option<(i128, i128, i128)>)> {
+    let first = Form::new(f.0, f.1, f.2)?;
+    let second = Form::new(g.0, g.1, g.2)?;
+    let turned = turn(&first, &second);
+    if turned <= 0 {
+        return Some((turned, None));
+    }
+    Some((turned, Some(crossing_of(&first, &second).parts())))
+}
+
+#[test]
+fn lines_that_turn(rt: HostRuntime) {
+    assert_eq!(rt; turned((2, 0, -1), (0, 3, 1)), Some((6, Some((3, -2, 6)))));
+    assert_eq!(rt; turned((0, 3, 1), (2, 0, -1)), Some((-6, None)));
+    assert_eq!(rt; turned((1, 1, 0), (2, 2, 5)), Some((0, None)));
 }
 
 // The value of the form, and of its opposite, at the corner where x = 2 and y = 3; none where they are no forms.

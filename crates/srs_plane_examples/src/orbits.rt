@@ -1,5 +1,5 @@
 // Steps, and how orbits end.
-use srs_map::{OrbitEnd, is_narrow, is_origin, orbit, step};
+use srs_map::{OrbitEnd, is_narrow, is_origin, minus, orbit, step};
 use srs_num::{Pt, V2};
 use std::test::Fail;
 
@@ -89,6 +89,23 @@ fn next(p: i64, q: i64, d: i64, a: i64, b: i64) -> Option<(i64, i64)> {
     }
     let next = step(&r, z);
     Some((next.a, next.b))
+}
+
+// The pair on the other side of (0, 0), where the call may be made.
+fn other_side(a: i64, b: i64) -> Option<(i64, i64)> {
+    let w = V2 { a, b };
+    if !is_narrow(w) {
+        return None;
+    }
+    let other = minus(w);
+    Some((other.a, other.b))
+}
+
+#[test]
+fn other_sides(rt: HostRuntime) {
+    assert_eq!(rt; other_side(5, -7), Some((-5, 7)));
+    assert_eq!(rt; other_side(-WIDEST, 0), Some((WIDEST, 0)));
+    assert_eq!(rt; other_side(WIDEST + 1, 0), None);
 }
 
 // The place of the first pair that goes elsewhere; none where all go there.

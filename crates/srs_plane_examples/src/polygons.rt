@@ -1,5 +1,5 @@
 // Polygons and their refusals.
-use srs_plane::{Kind, PolyErr, Region, Vertex, polygon};
+use srs_plane::{Halves, Kind, PolyErr, Region, Vertex, polygon};
 use std::alloc::{AllocError, Global};
 use std::test::Fail;
 
@@ -116,6 +116,23 @@ fn copies_of_a_region(rt: HostRuntime) -> Result<(), Fail> {
     let alloc = rt.alloc();
     let region = with_first_open(alloc, &[(-1, 0, 8), (0, -1, 8), (1, 0, 8)])?;
     assert_eq!(rt; sizes(alloc, &region)?, [(3, true), (4, false)]);
+    Ok(())
+}
+
+// The numbers of the form of the last half that is left, and its kind.
+fn last(halves: &mut Halves<'_>) -> Option<((i64, i64, i64), Kind)> {
+    let half = halves.pop()?;
+    Some((half.form.parts(), half.kind))
+}
+
+#[test]
+fn halves_from_the_last(rt: HostRuntime) -> Result<(), Fail> {
+    let region = with_first_open(rt.alloc(), &[(0, 0, 1), (1, 0, 8), (0, 1, 8)])?;
+    let mut halves = region.halves();
+    assert_eq!(rt; last(&mut halves), Some(((1, 0, 0), Kind::Ge)));
+    assert_eq!(rt; last(&mut halves), Some(((-8, -8, 1), Kind::Ge)));
+    assert_eq!(rt; last(&mut halves), Some(((0, 1, 0), Kind::Gt)));
+    assert_eq!(rt; last(&mut halves), None);
     Ok(())
 }
 

@@ -5,7 +5,7 @@ use crate::witnesses::{MOST, are};
 use srs_cell::Cell;
 use srs_cut::{Judged, cutout, judge};
 use srs_graph::Graph;
-use srs_num::{Forms, V2};
+use srs_num::{Forms, Pairs, V2};
 use srs_path::{Cycle, Outcome, Ranks};
 use srs_text::Nums;
 use srs_wit::witnesses;
@@ -116,6 +116,28 @@ fn ranks_of_a_corner(rt: HostRuntime) -> Result<(), Fail> {
     let graph = graph_of(alloc, &CORNER)?;
     let ranks = graph.ranks(alloc)?.ok_or("no walk goes on")?;
     assert!(rt; are_ranks(&ranks, &RANKS));
+    Ok(())
+}
+
+// The pairs with their ranks, where they make such a list.
+fn ranks_of(alloc: Global, rows: &[((i64, i64), u32)]) -> Result<Option<Ranks>, Fail> {
+    let mut pairs = Pairs::new(alloc);
+    let mut ranks = Nums::new(alloc);
+    for ((a, b), rank) in rows {
+        if pairs.push(V2 { a: *a, b: *b }).is_err() {
+            Err("there is memory")?;
+        }
+        ranks.push(i64::from(*rank))?;
+    }
+    Ok(Ranks::of(pairs, ranks))
+}
+
+#[test]
+fn ranks_of_a_list(rt: HostRuntime) -> Result<(), Fail> {
+    let alloc = rt.alloc();
+    let ranks = ranks_of(alloc, &RANKS)?.ok_or("they ascend")?;
+    assert!(rt; are_ranks(&ranks, &RANKS));
+    assert!(rt; ranks_of(alloc, &[((1, 0), 1), ((0, 0), 0)])?.is_none());
     Ok(())
 }
 

@@ -6,7 +6,7 @@ use crate::plain::{Plain, is_plain};
 use srs_cell::Cell;
 use srs_grid::line;
 use srs_path::{Cause, Last, Side, Why};
-use srs_refine::refine;
+use srs_refine::{Refiner, refine};
 use std::alloc::Global;
 use std::test::Fail;
 
@@ -49,9 +49,10 @@ const LEFT_CELLS: [Row; 3] = [
     ),
 ];
 
-// Whether refining the cell gives the outcome.
+// Whether refining the cell gives the outcome, also with memory that other cells were refined with before.
 fn gives(
     alloc: Global,
+    refiner: &mut Refiner,
     cell: &Cell,
     last: Option<Last>,
     w: u32,
@@ -61,14 +62,21 @@ fn gives(
         Err("so many are allowed")?;
     }
     let finding = refine(alloc, cell, last, w)?;
-    Ok(finding.w() == w && is_plain(finding.outcome(), wanted))
+    let again = refiner.refine(alloc, cell, last, w)?;
+    Ok(
+        finding.w() == w
+            && is_plain(finding.outcome(), wanted)
+            && again.w() == w
+            && is_plain(again.outcome(), wanted),
+    )
 }
 
 // The place of the first row that isn't so; none where all are.
 fn first_other(alloc: Global, rows: &[Row]) -> Result<Option<usize>, Fail> {
+    let mut refiner = Refiner::new(alloc, 16)?;
     for (i, (cuts, last, w, wanted)) in rows.iter().enumerate() {
         let cell = part(alloc, &SPLIT, cuts)?;
-        if !gives(alloc, &cell, *last, *w, *wanted)? {
+        if !gives(alloc, &mut refiner, &cell, *last, *w, *wanted)? {
             return Ok(Some(i));
         }
     }

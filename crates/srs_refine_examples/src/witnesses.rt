@@ -6,7 +6,7 @@ use srs_cell::Cell;
 use srs_num::{Pairs, V2};
 use srs_path::Side;
 use srs_plane::Kind;
-use srs_wit::{Big, WitErr, small_witnesses, witnesses};
+use srs_wit::{Big, Searcher, WitErr, small_witnesses, witnesses};
 use std::alloc::Global;
 use std::test::Fail;
 
@@ -72,6 +72,41 @@ fn has_small(cell: &Cell, alloc: Global, most: u32, wanted: &[(i64, i64)]) -> bo
         Ok(Some(set)) => are(set.as_slice(), wanted),
         _ => false,
     }
+}
+
+// The same by a searcher that has searched other cells before.
+fn has_small_again(
+    searcher: &mut Searcher,
+    cell: &Cell,
+    alloc: Global,
+    most: u32,
+    wanted: &[(i64, i64)],
+) -> bool {
+    if most < 1 || most > MOST {
+        return false;
+    }
+    match searcher.small_witnesses(alloc, cell, most) {
+        Ok(Some(set)) => are(set.as_slice(), wanted),
+        _ => false,
+    }
+}
+
+// The place of the first row that isn't so; none where all are.
+fn first_other_again(alloc: Global, rows: &[Row]) -> Result<Option<usize>, Fail> {
+    let mut searcher = Searcher::new(alloc, 16)?;
+    for (i, (polygon, cuts, most, wanted)) in rows.iter().enumerate() {
+        let cell = part(alloc, polygon, cuts)?;
+        if !has_small_again(&mut searcher, &cell, alloc, *most, wanted) {
+            return Ok(Some(i));
+        }
+    }
+    Ok(None)
+}
+
+#[test]
+fn witness_sets_in_turn(rt: HostRuntime) -> Result<(), Fail> {
+    assert_eq!(rt; first_other_again(rt.alloc(), &WITNESSES)?, None);
+    Ok(())
 }
 
 // The place of the first row that isn't so; none where all are.

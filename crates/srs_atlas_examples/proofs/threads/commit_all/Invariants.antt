@@ -1,0 +1,5 @@
+use Rattle.srs_turn.specs.Passes.{IsPassOf}
+use Rattle.srs_atlas_examples.proofs.threads.commit_all.Given as goal
+
+abbrev pub invariant-loop-i : goal.invariant-loop-i
+invariant-loop-i g l = IsPassOf l.atlas l.pass

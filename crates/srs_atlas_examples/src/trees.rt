@@ -1,0 +1,51 @@
+// Trees that grow in place, and versions of them.
+use crate::cells::{SPLIT, cell_of};
+use srs_path::{Cause, Last, Outcome, Path};
+use srs_refine::refine;
+use srs_tree::{Answer, GrowingTree, Pending, Version};
+use std::alloc::Global;
+use std::test::Fail;
+
+// Whether the cell that waits is the root, of three halves.
+fn is_root(cell: &Pending) -> bool {
+    cell.path.same(&Path::root()) && cell.cell.region().len() == 3
+}
+
+// Whether the version's root is the cell, how many outcomes it has, and whether the root has one.
+fn told(version: &Version) -> Result<(bool, u64, bool), Fail> {
+    let root = version.root()?;
+    let found = version.outcome(Path::root()).is_some();
+    Ok((is_root(&root), version.count(), found))
+}
+
+// The outcome of the root is entered.
+fn enter(alloc: Global, tree: &mut GrowingTree) -> Result<(), Fail> {
+    let finding = refine(alloc, &cell_of(alloc, &SPLIT)?, Some(Last::Depth), 16)?;
+    if tree.enter(alloc, Path::root(), finding).is_err() {
+        Err("it is entered")?;
+    }
+    Ok(())
+}
+
+#[test]
+fn versions_of_a_tree(rt: HostRuntime) -> Result<(), Fail> {
+    let alloc = rt.alloc();
+    let mut tree = GrowingTree::start(alloc, cell_of(alloc, &SPLIT)?)?;
+    let root = tree.root()?;
+    let before = tree.version(alloc)?;
+    enter(alloc, &mut tree)?;
+    let after = tree.version(alloc)?;
+    let last = tree.finish();
+    assert!(rt; is_root(&root));
+    assert_eq!(rt; told(&before)?, (true, 0, false));
+    assert_eq!(rt; told(&after)?, (true, 1, true));
+    assert_eq!(rt; told(&last)?, (true, 1, true));
+    Ok(())
+}
+
+#[test]
+fn answer_of_a_leaf(rt: HostRuntime) {
+    let left = Outcome::Left(Cause::Thin);
+    let answer = Answer::of(&left);
+    assert!(rt; matches!(answer, Answer::Undecided(Some(Cause::Thin))));
+}
