@@ -61,24 +61,77 @@ fn are_at(cells: &PendingList, paths: &[&str]) -> Result<bool, Fail> {
     Ok(all)
 }
 
+// How many events the pass sees by a count.
+fn count_of(atlas: &Atlas, pass: &mut AtlasPass) -> u64
+    requires { IsPassOf atlas.now pass.old }
+    ensures { IsPassOf atlas.now pass.new }
+{
+    atlas.newest(pass)
+}
+
+// How many it sees by a version.
+fn version_of<R: Wait>(
+    rt: &R,
+    alloc: Global,
+    atlas: &Atlas,
+    pass: &mut AtlasPass,
+) -> Result<u64, Fail>
+    requires { IsPassOf atlas.now pass.old }
+    ensures { IsPassOf atlas.now pass.new }
+{
+    let version = atlas.refresh(rt, alloc, pass)?;
+    Ok(version.count())
+}
+
+// Whether it sees that the cells on these paths wait.
+fn waits_at<R: Wait>(
+    rt: &R,
+    alloc: Global,
+    atlas: &Atlas,
+    pass: &mut AtlasPass,
+    paths: &[&str],
+) -> Result<bool, Fail>
+    requires { IsPassOf atlas.now pass.old }
+    ensures { IsPassOf atlas.now pass.new }
+{
+    let cells = atlas.pending(rt, alloc, pass)?;
+    are_at(&cells, paths)
+}
+
+// All that one pass sees behind the second event.
+fn sees<R: Wait>(
+    rt: &R,
+    alloc: Global,
+    atlas: &Atlas,
+    pass: &mut AtlasPass,
+) -> Result<(u64, u64, bool), Fail>
+    requires { IsPassOf atlas.now pass.old }
+    ensures { IsPassOf atlas.now pass.new }
+{
+    let count = count_of(atlas, pass);
+    let version = version_of(rt, alloc, atlas, pass)?;
+    Ok((count, version, waits_at(rt, alloc, atlas, pass, &WAITING)?))
+}
+
 #[test]
 fn atlas_calls(rt: HostRuntime) -> Result<(), Fail> {
     let alloc = rt.alloc();
     let (atlas, mut pass) = Atlas::start(&rt, alloc, cell_of(alloc, &SPLIT)?, 16)?;
+    // Passes that are split off before the first commit.
     let mut one = atlas.split_pass(&mut pass);
     let mut two = atlas.split_pass(&mut pass);
     let mut three = atlas.split_pass(&mut pass);
     let mut four = atlas.split_pass(&mut pass);
-    assert_eq!(rt; (atlas.w(), atlas.plan()), (16, None));
-    assert_eq!(rt; atlas.newest(&mut pass), 0);
-    assert_eq!(rt; first_other(&rt, alloc, &atlas, &mut pass, &CALLS)?, None);
-    assert_eq!(rt; atlas.newest(&mut pass), 2);
-    assert_eq!(rt; atlas.refresh(&rt, alloc, &mut pass)?.count(), 2);
-    assert!(rt; are_at(&atlas.pending(&rt, alloc, &mut pass)?, &WAITING)?);
-    // Passes that were split off before the first commit.
-    assert_eq!(rt; atlas.newest(&mut one), 2);
-    assert_eq!(rt; atlas.refresh(&rt, alloc, &mut two)?.count(), 2);
-    assert!(rt; are_at(&atlas.pending(&rt, alloc, &mut three)?, &WAITING)?);
-    assert_eq!(rt; first_other(&rt, alloc, &atlas, &mut four, &LAST)?, None);
+    let before = count_of(&atlas, &mut pass);
+    let calls = first_other(&rt, alloc, &atlas, &mut pass, &CALLS);
+    let seen = sees(&rt, alloc, &atlas, &mut pass);
+    let counted = count_of(&atlas, &mut one);
+    let version = version_of(&rt, alloc, &atlas, &mut two);
+    let waits = waits_at(&rt, alloc, &atlas, &mut three, &WAITING);
+    let last = first_other(&rt, alloc, &atlas, &mut four, &LAST);
+    assert_eq!(rt; (atlas.w(), atlas.plan(), before), (16, None, 0));
+    assert_eq!(rt; (calls?, seen?), (None, (2, 2, true)));
+    assert_eq!(rt; (counted, version?, waits?), (2, 2, true));
+    assert_eq!(rt; last?, None);
     Ok(())
 }

@@ -27,18 +27,24 @@ fn enter(alloc: Global, tree: &mut GrowingTree) -> Result<(), Fail> {
     Ok(())
 }
 
+// What a version tells that is taken before the outcome of the root is entered, asked after that; and what one tells that is
+// taken then.
+fn taken(alloc: Global, tree: &mut GrowingTree) -> Result<[(bool, u64, bool); 2], Fail> {
+    let before = tree.version(alloc)?;
+    enter(alloc, tree)?;
+    let after = tree.version(alloc)?;
+    Ok([told(&before)?, told(&after)?])
+}
+
 #[test]
 fn versions_of_a_tree(rt: HostRuntime) -> Result<(), Fail> {
     let alloc = rt.alloc();
     let mut tree = GrowingTree::start(alloc, cell_of(alloc, &SPLIT)?)?;
-    let root = tree.root()?;
-    let before = tree.version(alloc)?;
-    enter(alloc, &mut tree)?;
-    let after = tree.version(alloc)?;
+    let taken = taken(alloc, &mut tree)?;
+    let root = is_root(&tree.root()?);
     let last = tree.finish();
-    assert!(rt; is_root(&root));
-    assert_eq!(rt; told(&before)?, (true, 0, false));
-    assert_eq!(rt; told(&after)?, (true, 1, true));
+    assert!(rt; root);
+    assert_eq!(rt; taken, [(true, 0, false), (true, 1, true)]);
     assert_eq!(rt; told(&last)?, (true, 1, true));
     Ok(())
 }

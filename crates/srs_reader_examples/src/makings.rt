@@ -21,10 +21,10 @@ pub fn has_read(alloc: Global, text: &str) -> Result<CertReader, Fail>
         Err("it is short")?;
     }
     let mut reader = CertReader::new(alloc);
-    if read_lines(&mut reader, text.as_bytes()).is_err() {
-        Err("it is a certificate")?;
+    match read_lines(&mut reader, text.as_bytes()) {
+        Ok(()) => Ok(reader),
+        Err(_) => Err("it is a certificate")?,
     }
-    Ok(reader)
 }
 
 // The certificate of what was read, made of its parts.
