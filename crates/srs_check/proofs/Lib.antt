@@ -13,3 +13,4 @@ pub mod BuiltAnswers
 pub mod Excluded
 pub mod WholeCounts
 pub mod WholeProved
+pub mod Separating

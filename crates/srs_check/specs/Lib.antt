@@ -8,3 +8,4 @@ pub mod Tested
 pub mod Certified
 pub mod Whole
 pub mod Builds
+pub mod Separated

@@ -15,4 +15,4 @@ mod waiting;
 pub use builds::{Built, build};
 pub use checks::check;
 pub use faults::{Checked, Counts, Fault};
-pub use laws::whole_certificates;
+pub use laws::{separates, whole_certificates};

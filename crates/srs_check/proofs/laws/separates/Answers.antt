@@ -1,0 +1,5 @@
+use Rattle.srs_check.proofs.Separating.{separates}
+use Rattle.srs_check.proofs.laws.separates.Goals as goal
+
+pub returns : goal.returns
+returns c = separates
