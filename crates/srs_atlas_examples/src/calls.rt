@@ -113,25 +113,45 @@ fn sees<R: Wait>(
     Ok((count, version, waits_at(rt, alloc, atlas, pass, &WAITING)?))
 }
 
+// Whether the calls are answered so, where the other passes were split off before the first of them.
+fn are_answered<R: Wait>(
+    rt: &R,
+    alloc: Global,
+    atlas: &Atlas,
+    pass: &mut AtlasPass,
+    one: &mut AtlasPass,
+    two: &mut AtlasPass,
+    three: &mut AtlasPass,
+    four: &mut AtlasPass,
+) -> Result<bool, Fail>
+    requires own { IsPassOf atlas.now pass.old × IsPassOf atlas.now one.old
+        × IsPassOf atlas.now two.old × IsPassOf atlas.now three.old × IsPassOf atlas.now four.old }
+    requires free { atlas.now.fixed.plan ≡ None }
+{
+    let none = count_of(atlas, pass) == 0;
+    let calls = first_other(rt, alloc, atlas, pass, &CALLS)? == None;
+    let seen = sees(rt, alloc, atlas, pass)? == (2, 2, true);
+    let counted = count_of(atlas, one) == 2;
+    let shared = version_of(rt, alloc, atlas, two)? == 2;
+    let waiting = waits_at(rt, alloc, atlas, three, &WAITING)?;
+    let last = first_other(rt, alloc, atlas, four, &LAST)? == None;
+    Ok(none && calls && seen && counted && shared && waiting && last)
+}
+
 #[test]
 fn atlas_calls(rt: HostRuntime) -> Result<(), Fail> {
     let alloc = rt.alloc();
     let (atlas, mut pass) = Atlas::start(&rt, alloc, cell_of(alloc, &SPLIT)?, 16)?;
-    // Passes that are split off before the first commit.
     let mut one = atlas.split_pass(&mut pass);
     let mut two = atlas.split_pass(&mut pass);
     let mut three = atlas.split_pass(&mut pass);
     let mut four = atlas.split_pass(&mut pass);
-    let before = count_of(&atlas, &mut pass);
-    let calls = first_other(&rt, alloc, &atlas, &mut pass, &CALLS);
-    let seen = sees(&rt, alloc, &atlas, &mut pass);
-    let counted = count_of(&atlas, &mut one);
-    let version = version_of(&rt, alloc, &atlas, &mut two);
-    let waits = waits_at(&rt, alloc, &atlas, &mut three, &WAITING);
-    let last = first_other(&rt, alloc, &atlas, &mut four, &LAST);
-    assert_eq!(rt; (atlas.w(), atlas.plan(), before), (16, None, 0));
-    assert_eq!(rt; (calls?, seen?), (None, (2, 2, true)));
-    assert_eq!(rt; (counted, version?, waits?), (2, 2, true));
-    assert_eq!(rt; last?, None);
+    let terms = (atlas.w(), atlas.plan()) == (16, None);
+    assert!(rt; terms);
+    assert!(rt;
+        are_answered(
+            &rt, alloc, &atlas, &mut pass, &mut one, &mut two, &mut three, &mut four
+        )?
+    );
     Ok(())
 }

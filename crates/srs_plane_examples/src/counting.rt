@@ -64,29 +64,19 @@ fn half_holds<L: Ledger>(half: &Half, r: &Pt, blank: Blank) -> bool
     half.holds(r, &mut steps)
 }
 
-// Whether the half of x + y >= 0, and that without its line, hold the point (p / d, q / d).
-fn held_by_halves(p: i64, q: i64, d: i64) -> Option<(bool, bool)> {
+// Whether the half of x + y of this kind holds the point (p / d, q / d), where it is one.
+fn is_at_half(kind: Kind, p: i64, q: i64, d: i64) -> Option<bool> {
     let r = Pt::new(p, q, d)?;
     let form = Form::new(1, 1, 0)?;
-    let closed = Half {
-        form,
-        kind: Kind::Ge,
-    };
-    let open = Half {
-        form,
-        kind: Kind::Gt,
-    };
-    Some((
-        half_holds::<Brand>(&closed, &r, Blank::new(1)),
-        half_holds::<Brand>(&open, &r, Blank::new(1)),
-    ))
+    Some(half_holds::<Brand>(&Half { form, kind }, &r, Blank::new(1)))
 }
 
 #[test]
 fn points_at_a_line(rt: HostRuntime) {
-    assert_eq!(rt; held_by_halves(1, -1, 8), Some((true, false)));
-    assert_eq!(rt; held_by_halves(2, -1, 8), Some((true, true)));
-    assert_eq!(rt; held_by_halves(1, -2, 8), Some((false, false)));
+    assert_eq!(rt; is_at_half(Kind::Ge, 1, -1, 8), Some(true));
+    assert_eq!(rt; is_at_half(Kind::Gt, 1, -1, 8), Some(false));
+    assert_eq!(rt; is_at_half(Kind::Gt, 2, -1, 8), Some(true));
+    assert_eq!(rt; is_at_half(Kind::Ge, 1, -2, 8), Some(false));
 }
 
 // Whether the region holds the point, where it is one.
