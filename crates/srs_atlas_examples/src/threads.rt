@@ -259,8 +259,11 @@ fn four_threads_in_three_rounds(rt: HostRuntime) -> Result<(), Fail> {
         assert_eq!(rt; (version.count(), events.len()), (7, 7));
         assert!(rt; in_order(&one, &events) && in_order(&two, &events));
         assert!(rt; in_order(&three, &events) && in_order(&four, &events));
-        let owned = [one.len(), two.len(), three.len(), four.len()];
-        assert_eq!(rt; owned.iter().map(|n| *n as u64).sum::<u64>(), 7);
+        let halves = (
+            one.len().wrapping_add(two.len()),
+            three.len().wrapping_add(four.len()),
+        );
+        assert_eq!(rt; halves.0.wrapping_add(halves.1), 7);
     }
     Ok(())
 }
