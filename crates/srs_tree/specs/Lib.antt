@@ -11,3 +11,4 @@ pub mod Answers
 pub mod Clips
 pub mod Questions
 pub mod Sessions
+pub mod Fits
