@@ -33,14 +33,14 @@ abbrev pub joining_view : View → View → View
 joining_view v w = record v { role = Joining w.drawn; spare = v.spare + w.spare }
 
 -- the numbers of the seat that was taken in
-abbrev pub taken_in : Role → List ℕ
-taken_in Live = []
-taken_in (Joining other) = other
-taken_in Spent = []
+abbrev pub brought_by : Role → List ℕ
+brought_by Live = []
+brought_by (Joining other) = other
+brought_by Spent = []
 
 -- how often the seat has the number, with those that it took in
 abbrev pub times_by : ℕ → View → ℕ
-times_by x v = times x v.drawn + times x (taken_in v.role)
+times_by x v = times x v.drawn + times x (brought_by v.role)
 
 -- 1 for a seat that has ended or is spent
 abbrev pub ends_by : Role → Bool → ℕ
@@ -85,5 +85,5 @@ module _ {S : Type 0} where
   -- The two lists have no number in common, and became one.
   abbrev pub Compared : Step S → Me S View → ℕ → Me S View → Type 0
   Compared step old found new =
-      (new ≡ (record old.0 { role = Live; drawn = old.0.drawn ++ taken_in old.0.role }, []))
-      × AreDistinct old.0.drawn (taken_in old.0.role) × AreBelow old.0.n new.0.drawn
+      (new ≡ (record old.0 { role = Live; drawn = old.0.drawn ++ brought_by old.0.role }, []))
+      × AreDistinct old.0.drawn (brought_by old.0.role) × AreBelow old.0.n new.0.drawn

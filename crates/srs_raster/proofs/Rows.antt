@@ -6,7 +6,7 @@ use Rattle.std.proofs.lemmas.List.Concat.{flat_map-append}
 use Rattle.srs_plane.specs.Regions.{Area}
 use Rattle.srs_tree.specs.Tree.{Tree}
 use Rattle.srs_raster.specs.declared.grids.Grid.{Grid}
-use Rattle.srs_raster.specs.Maps.{IsShown, IsRow, HasRow, IsText, line_of}
+use Rattle.srs_raster.specs.Maps.{IsShown, IsRow, HasRow, IsText, row_line}
 
 -- an element of a longer list is an old one, or the last
 last_or_old : {X : Type 0} (xs : List X) (x : X) (k : ℕ) (y : X) → slice_get (xs ++ x ∷ []) k ≡ Some y → (slice_get xs k ≡ Some y) ⊎ ((k ≡ length xs) × (x ≡ y))
@@ -56,9 +56,9 @@ module _ (Root : Area) (T : Tree) (g : Grid) where
   text_more n before after text has = record {
     rows = text.rows ++ has.row ∷ [];
     are_rows = record { height = omega (arith, length-append text.rows (has.row ∷ []), text.are_rows.height); each = each };
-    is = has.is ∙ ap (λ (t : List ℕ). t ++ line_of has.row) text.is
-        ∙ ap (λ (t : List ℕ). flat_map line_of text.rows ++ t) (sym (append-nil (line_of has.row)))
-        ∙ sym (flat_map-append line_of text.rows (has.row ∷ []));
+    is = has.is ∙ ap (λ (t : List ℕ). t ++ row_line has.row) text.is
+        ∙ ap (λ (t : List ℕ). flat_map row_line text.rows ++ t) (sym (append-nil (row_line has.row)))
+        ∙ sym (flat_map-append row_line text.rows (has.row ∷ []));
   }
     where
       each : (j : ℕ) (row : List ℕ) → slice_get (text.rows ++ has.row ∷ []) j ≡ Some row → IsRow Root T g j g.width row

@@ -58,20 +58,20 @@ pub record AreRows (Root : Area) (T : Tree) (g : Grid) (n : ℕ) (rows : List (L
   pub each : (j : ℕ) (row : List ℕ) → slice_get rows j ≡ Some row → IsRow Root T g j g.width row
 
 -- a row and the line's end, the byte 10
-abbrev pub line_of : List ℕ → List ℕ
-line_of row = row ++ 10 ∷ []
+abbrev pub row_line : List ℕ → List ℕ
+row_line row = row ++ 10 ∷ []
 
 -- the text `after` is `before` with the line of row j
 pub record HasRow (Root : Area) (T : Tree) (g : Grid) (j : ℕ) (before after : List ℕ) : Type 0 where
   pub row : List ℕ
   pub is_row : IsRow Root T g j g.width row
-  pub is : after ≡ before ++ line_of row
+  pub is : after ≡ before ++ row_line row
 
 -- the text of the rows
 pub record IsText (Root : Area) (T : Tree) (g : Grid) (n : ℕ) (text : List ℕ) : Type 0 where
   pub rows : List (List ℕ)
   pub are_rows : AreRows Root T g n rows
-  pub is : text ≡ flat_map line_of rows
+  pub is : text ≡ flat_map row_line rows
 
 -- the map of the tree T of the region Root, over the polygon of these vertices, with w columns and h rows
 pub record IsMapText (Root : Area) (T : Tree) (vs : List Vertex) (w h : ℕ) (text : List ℕ) : Type 0 where
