@@ -32,7 +32,7 @@ use Rattle.srs_atlas.specs.declared.book.Terms.{Terms}
 use Rattle.srs_atlas.specs.declared.commits.Commit.{Commit}
 use Rattle.srs_atlas.specs.declared.commits.Commit.TheVariants.{Done as IsDone}
 use Rattle.srs_atlas.specs.Books.{AreTerms, IsLawful, cell_at, waiting_in, terms_of, IsBook}
-use Rattle.srs_atlas.specs.Commits.{event_at, FitsPlan, IsReady, IsWelcome, Answers, Commits, commit_of}
+use Rattle.srs_atlas.specs.Commits.{event_at, FitsPlan, IsReady, IsWelcome, RepliesWith, Commits, commit_of}
 
 -- what a snapshot says of the cells of its history
 module _ (Root : Area) (H : History) (v : Snapshot) (stands : StandsFor Root H v) where
@@ -159,7 +159,7 @@ module _ (terms : Terms) (H : History) (g : Growing) (path : List Side) (f : Fou
   tree : tree_of g.version ≡ outcome_at H
   tree = same_tree terms.root H g.version book.stands
 
-  by_refusal : (e : TreeErr) → IsTreeErr g.version path f e → Answers terms H path f (commit_of e) H
+  by_refusal : (e : TreeErr) → IsTreeErr g.version path f e → RepliesWith terms H path f (commit_of e) H
   by_refusal (NotThere p) t =
       let u : (IsCellOf (outcome_at H) path → ⊥) × IsLongestCell (outcome_at H) path p = subst (λ (T : Tree). (IsCellOf T path → ⊥) × IsLongestCell T path p) tree t in
       (refl, u.0, u.1)
@@ -172,7 +172,7 @@ module _ (terms : Terms) (H : History) (g : Growing) (path : List Side) (f : Fou
 
   pub refused : (e : TreeErr) (reply : Commit) (now : History) → IsTreeErr g.version path f e → reply ≡ commit_of e → now ≡ H → Commits terms path f H reply now
   refused e reply now t is same = record {
-    answer = subst (λ (G : History). Answers terms H path f reply G) (sym same) (subst (λ (r : Commit). Answers terms H path f r H) (sym is) (by_refusal e t));
+    answer = subst (λ (G : History). RepliesWith terms H path f reply G) (sym same) (subst (λ (r : Commit). RepliesWith terms H path f r H) (sym is) (by_refusal e t));
     lawful = subst (IsLawful terms) (sym same) book.lawful;
   }
 

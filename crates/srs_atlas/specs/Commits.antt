@@ -39,21 +39,21 @@ pub record IsWelcome (Root : Area) (H : History) (path : List Side) (f : Found) 
   pub same : f.region ≡ region_at Root (outcome_at H) path
 
 -- what is answered where the history is `before`, and the history after that
-abbrev pub Answers : Terms → History → List Side → Found → Commit → History → Type 0
-Answers terms before path f (IsDone n) after =
+abbrev pub RepliesWith : Terms → History → List Side → Found → Commit → History → Type 0
+RepliesWith terms before path f (IsDone n) after =
     IsWelcome terms.root before path f × (after ≡ before ++ event_at path f.outcome ∷ []) × (n ≡ length after)
-Answers terms before path f (IsLate o) after =
+RepliesWith terms before path f (IsLate o) after =
     (after ≡ before) × IsCellOf (outcome_at before) path × (outcome_at before path ≡ Some (arc_value o))
-Answers terms before path f (IsNotThere p) after =
+RepliesWith terms before path f (IsNotThere p) after =
     (after ≡ before) × (IsCellOf (outcome_at before) path → ⊥) × IsLongestCell (outcome_at before) path p
-Answers terms before path f (IsOtherCell c) after =
+RepliesWith terms before path f (IsOtherCell c) after =
     (after ≡ before) × IsOpenIn (outcome_at before) path × (arc_value c ≡ region_at terms.root (outcome_at before) path)
     × (f.region ≢ arc_value c)
-Answers terms before path f (IsNoMemory g) after = (after ≡ before) × (g ≡ f)
+RepliesWith terms before path f (IsNoMemory g) after = (after ≡ before) × (g ≡ f)
 
 -- what a commit does
 pub record Commits (terms : Terms) (path : List Side) (f : Found) (before : History) (reply : Commit) (after : History) : Type 0 where
-  pub answer : Answers terms before path f reply after
+  pub answer : RepliesWith terms before path f reply after
   pub lawful : IsLawful terms after
 
 -- the answer by a version's refusal

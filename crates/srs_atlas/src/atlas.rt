@@ -8,7 +8,7 @@ ghost use Rattle.srs_tree.specs.Snapshots.{StandsFor};
 ghost use Rattle.srs_path.specs.Views.{Budget};
 ghost use Rattle.srs_atlas.specs.Books.{AreTerms, IsLawful, waiting_in};
 ghost use Rattle.srs_atlas.specs.Counting.{AreCounts};
-ghost use Rattle.srs_atlas.specs.Commits.{FitsPlan, Answers};
+ghost use Rattle.srs_atlas.specs.Commits.{FitsPlan, RepliesWith};
 
 use crate::book::Book;
 use crate::commits::{Commit, prepared};
@@ -72,7 +72,8 @@ impl Atlas {
         limits: Limits,
     ) -> Result<(Atlas, AtlasPass), NoMemory>
         requires { length cell ≤ 16 }
-        ensures atlas { IfOk result (λ r. r.0.fixed ≡ record { root = cell; w = limits.wits; plan = Some limits }) }
+        ensures atlas { IfOk result
+            (λ r. r.0.fixed ≡ record { root = cell; w = limits.wits; plan = Some limits }) }
         ensures pass { IfOk result (λ r. IsPassOf r.0 r.1 × (r.1.seen ≡ [])) }
     {
         Atlas::begin(rt, alloc, cell, limits.wits(), Some(limits))
@@ -126,9 +127,12 @@ impl Atlas {
         requires own { IsPassOf self.now pass.old }
         requires w { f.w ≡ self.now.fixed.w }
         requires short { IsShortCut path f.outcome }
-        requires planned { (start : History) × Begins start pass.old.seen × ((L : Budget) → self.now.fixed.plan ≡ Some L → FitsPlan self.now.fixed.root L start path f.outcome) }
+        requires planned { (start : History) × Begins start pass.old.seen ×
+            ((L : Budget) → self.now.fixed.plan ≡ Some L →
+            FitsPlan self.now.fixed.root L start path f.outcome) }
         ensures own { IsPassOf self.now pass.new }
-        ensures did { (before : History) × Begins pass.old.seen before × Answers self.now.fixed before path f result pass.new.seen }
+        ensures did { (before : History) × Begins pass.old.seen before ×
+            RepliesWith self.now.fixed before path f result pass.new.seen }
         ensures seen { Begins pass.old.seen pass.new.seen }
         ensures lawful { IsLawful self.now.fixed pass.new.seen }
     {

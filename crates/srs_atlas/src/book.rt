@@ -69,7 +69,8 @@ impl Book {
         requires few { length cell ≤ 16 }
         requires terms { AreTerms (record { root = cell; w = w; plan = plan.now }) }
         ensures history { IfOk result (λ b. b.history ≡ []) }
-        ensures terms { IfOk result (λ b. b.terms ≡ record { root = cell; w = w; plan = plan.now }) }
+        ensures terms { IfOk result
+            (λ b. b.terms ≡ record { root = cell; w = w; plan = plan.now }) }
     {
         Ok(Book {
             tree: GrowingTree::start(alloc, cell)?,
@@ -110,7 +111,8 @@ impl Book {
 
     // The cells that wait, shared. An `Err` is want of memory.
     pub(crate) fn list(&self, alloc: Global) -> Result<PendingList, NoMemory>
-        ensures cells { IfOk result (λ list. list ≡ waiting_in self.now.terms.root self.now.history) }
+        ensures cells { IfOk result
+            (λ list. list ≡ waiting_in self.now.terms.root self.now.history) }
         ensures lawful { IsLawful self.now.terms self.now.history }
     {
         self.tree.waiting(alloc)

@@ -49,7 +49,8 @@ impl Cert {
         requires polygon { IsPolygon vertices.now }
         requires tree { ListsWholeTree events }
         requires within { IsWithin limits events }
-        ensures { IfOk result (λ c. c ≡ record { vertices = vertices.now; limits = limits; events = events }) }
+        ensures { IfOk result
+            (λ c. c ≡ record { vertices = vertices.now; limits = limits; events = events }) }
     {
         // Limits are in their ranges.
         let _ = limits.wits();
@@ -96,7 +97,8 @@ impl Cert {
     /// The outcome of the node at the path. `None` exactly where no node has that path. It goes down from the root by the
     /// places of the parts, and takes no memory.
     pub fn outcome(&self, path: Path) -> Option<&Outcome>
-        ensures { MatchOption result (outcome_at self.now.events path ≡ None) (λ o. outcome_at self.now.events path ≡ Some o.now) }
+        ensures { MatchOption result (outcome_at self.now.events path ≡ None)
+            (λ o. outcome_at self.now.events path ≡ Some o.now) }
     {
         let events = self.events();
         let mut place = 0;
@@ -109,8 +111,12 @@ impl Cert {
     // The place of the part on this side of the cut at the place `i`. `None` exactly where there is no cut.
     fn part(&self, i: u32, s: Side) -> Option<u32>
         requires { i < length self.now.events }
-        ensures none { IfNone result ((e : Entry) (h : LinearForm) → slice_get self.now.events i ≡ Some e → e.outcome ≡ Cut h → ⊥) }
-        ensures part { IfSome result (λ j. (e : Entry) → slice_get self.now.events i ≡ Some e → StandsAt self.now.events (e.path ++ s ∷ []) j) }
+        ensures none { IfNone result
+            ((e : Entry) (h : LinearForm) → slice_get self.now.events i ≡ Some e → e.outcome ≡
+            Cut h → ⊥) }
+        ensures part { IfSome result
+            (λ j. (e : Entry) → slice_get self.now.events i ≡ Some e →
+            StandsAt self.now.events (e.path ++ s ∷ []) j) }
     {
         // There are at most as many events as the limits allow.
         let _ = self.limits.cells();
@@ -146,7 +152,10 @@ fn lines_of(
 ) -> Result<Vec<u32>, NoMemory>
     requires counted { IsCounted vertices.now }
     requires within { IsWithin limits.now events.now }
-    ensures lines { IfOk result (λ lines. ListsLines (record { vertices = vertices.now; limits = limits.now; events = events.now }) lines.items) }
+    ensures lines { IfOk result
+        (λ lines. ListsLines
+        (record { vertices = vertices.now; limits = limits.now; events = events.now })
+        lines.items) }
     ensures ranges { OnOk result (All (λ e. IsInRange e.outcome) events.now) }
 {
     // The number of lines is bounded by these.

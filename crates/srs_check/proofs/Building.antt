@@ -23,7 +23,7 @@ use Rattle.srs_tree.proofs.HistoryLemmas.{path_eq_same}
 use Rattle.srs_tree.proofs.StandsLemmas.{path_total, ties, Stands-empty, Stands-append}
 use Rattle.srs_cert.specs.Certificates.{CertView, IsCertificate}
 use Rattle.srs_cert.proofs.Preordered.{here_first, take_here, Takes, walked_takes}
-use Rattle.srs_check.specs.Proving.{Proves, cell_at}
+use Rattle.srs_check.specs.Proving.{Proves, node_region}
 use Rattle.srs_check.specs.Builds.{as_built, built_in, IsBuilt}
 use Rattle.srs_check.proofs.Cuts.{cuts_of, cut_in, outcome_at-cuts, cell_forth, cell_back, region_same, region_then, legal_upto}
 use Rattle.srs_check.proofs.WalkStates.{AreGood, WalkState, good_more, good_divides, walk_first, walk_good, walk_next, few_wait, cell_is}
@@ -84,7 +84,7 @@ module _ (c : CertView) (is : IsCertificate c) (i : ℕ) (l : i ≤ length c.eve
   cuts_are p = outcome_at-cuts G p ∙ sym (ap cut_in (has p) ∙ same_cuts (outcome_at G p))
 
   -- a cell of the version has the region that the certificate says
-  same_cell : (p : List Side) → IsCellOf (tree_of v) p → region_at v.region (tree_of v) p ≡ cell_at c p
+  same_cell : (p : List Side) → IsCellOf (tree_of v) p → region_at v.region (tree_of v) p ≡ node_region c p
   same_cell p cell =
       ap (λ (A : Area). region_at A (tree_of v) p) stands.region
       ∙ sym (region_same (outcome_at (cuts_of G)) (tree_of v) cuts_are (region_of c.vertices) p)
@@ -139,12 +139,12 @@ module _ (c : CertView) (is : IsCertificate c) (i : ℕ) (w : WaitingCell) (rest
     good_next = good_more c i e at s.walk.good (walk_good c i w.region (regions_of rest) s.walk e at proves sound)
 
     -- the part on a side of a cut
-    part_is : (h : LinearForm) (side : Side) → e.outcome ≡ Cut h → region_at after.region (tree_of after) (e.path ++ side ∷ []) ≡ cell_at c (e.path ++ side ∷ [])
+    part_is : (h : LinearForm) (side : Side) → e.outcome ≡ Cut h → region_at after.region (tree_of after) (e.path ++ side ∷ []) ≡ node_region c (e.path ++ side ∷ [])
     part_is h side q =
         let cut : tree_of after e.path ≡ Some (Cut h) = entry_here v e.path (as_built e.outcome) ∙ ap (λ (o : Outcome). Some (as_built o)) q in
         same_cell c is (i + 1) (omega (arith, early)) good_next after stands_next (e.path ++ side ∷ []) (inr (record { parent = e.path; side = side; form = h; is = refl; cut = cut }))
 
-    parts_are : (o : Outcome) → e.outcome ≡ o → regions_of (map (cell_in after) (parts_by e.path (as_built o))) ≡ map (cell_at c) (parts_by e.path o)
+    parts_are : (o : Outcome) → e.outcome ≡ o → regions_of (map (cell_in after) (parts_by e.path (as_built o))) ≡ map (node_region c) (parts_by e.path o)
     parts_are (Inside ranks) q = refl
     parts_are (Outside cycle) q = refl
     parts_are (Cut h) q = ap₂ (λ (x y : Area). x ∷ y ∷ []) (part_is h Ge q) (part_is h Lt q)

@@ -15,7 +15,7 @@ use Rattle.srs_tree.specs.Growth.{IsProvedOf}
 use Rattle.srs_tree.proofs.OnePlanLemmas.{place_of}
 use Rattle.srs_cert.specs.Certificates.{CertView}
 use Rattle.srs_check.specs.Certified.{IsCertified}
-use Rattle.srs_check.specs.Proving.{cell_at}
+use Rattle.srs_check.specs.Proving.{node_region}
 use Rattle.srs_check.specs.Separated.{IsInLeafOf, Separates}
 
 zero_floor : (p q d : ℤ) → pos 1 ≤ℤ d → IsFloor (pos 0 *ℤ p +ℤ pos 0 *ℤ q +ℤ pos 0 *ℤ d) d (pos 0)
@@ -52,7 +52,7 @@ module _ (r : Point) (h : IsPoint r) where
       c.not_zero (back ∙ there)
 
 module _ (c : CertView) (certified : IsCertified c) where
-  sound_in : (o : Outcome) (r : Point) (at : IsInLeafOf c o r) → IsProvedOf (cell_at c at.path) o
+  sound_in : (o : Outcome) (r : Point) (at : IsInLeafOf c o r) → IsProvedOf (node_region c at.path) o
   sound_in o r at = let place = place_of c.events at.path o at.has in certified.sound place.0 (record { path = at.path; outcome = o }) place.1
 
   pub separates : Separates c

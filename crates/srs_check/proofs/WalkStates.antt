@@ -24,7 +24,7 @@ use Rattle.srs_tree.specs.WholeTrees.{AllowsAt}
 use Rattle.srs_tree.proofs.HistoryLemmas.{region_at-snoc}
 use Rattle.srs_cert.specs.Certificates.{CertView, IsCertificate}
 use Rattle.srs_check.specs.declared.faults.Fault.{Fault}
-use Rattle.srs_check.specs.Proving.{Proves, ProvesItself, IsProved, cell_at}
+use Rattle.srs_check.specs.Proving.{Proves, ProvesItself, IsProved, node_region}
 use Rattle.srs_check.specs.Faults.{Fails, IsFaultOf}
 use Rattle.srs_check.specs.declared.nodes.Tested.{Tested}
 use Rattle.srs_check.specs.declared.nodes.Tested.TheVariants.{Leaf, Divided, Wrong}
@@ -36,7 +36,7 @@ use Rattle.srs_check.proofs.Cuts.{DividesBefore, partition}
 -- the node proves itself, and what it claims is sound
 pub record IsGood (c : CertView) (e : Entry) : Type 0 where
   pub proves : ProvesItself c e
-  pub sound : IsProvedOf (cell_at c e.path) e.outcome
+  pub sound : IsProvedOf (node_region c e.path) e.outcome
 
 -- each node before node i is good
 abbrev pub AreGood : CertView → ℕ → Type 0
@@ -57,7 +57,7 @@ stacked_parts path (Left cause) rest s = s.1
 pub record WalkState (c : CertView) (i : ℕ) (cells : List Area) : Type 0 where
   pub waiting : List (List Side)
   pub walked : IsWalked c.events i waiting
-  pub cells_are : cells ≡ map (cell_at c) waiting
+  pub cells_are : cells ≡ map (node_region c) waiting
   pub stacked : IsStacked waiting
   pub good : AreGood c i
 
@@ -79,7 +79,7 @@ pub some_cell : (c : CertView) (i : ℕ) → i < length c.events → WalkState c
 some_cell c i l s =
     let e = here c i l in
     let t = walked_takes c.events i s.waiting e.0 s.walked e.1 in
-    let q : [] ≡ cell_at c e.0.path ∷ map (cell_at c) t.rest = s.cells_are ∙ ap (map (cell_at c)) t.first in
+    let q : [] ≡ node_region c e.0.path ∷ map (node_region c) t.rest = s.cells_are ∙ ap (map (node_region c)) t.first in
     cc
 
 pub good_more : (c : CertView) (i : ℕ) (e : Entry) → slice_get c.events i ≡ Some e → AreGood c i → IsGood c e → AreGood c (i + 1)
@@ -90,7 +90,7 @@ good_more c i e at before here k f l bt = elim (dec_lt k i) as (λ _. IsGood c f
 
 -- each cut among good nodes divides its cell
 pub good_divides : (c : CertView) (i : ℕ) → AreGood c i → DividesBefore (region_of c.vertices) c.events i
-good_divides c i good k e h l at q = subst (λ (o : Outcome). Proves (cell_at c e.path) c.limits c.events (length e.path) o) q (good k e l at).proves
+good_divides c i good k e h l at q = subst (λ (o : Outcome). Proves (node_region c e.path) c.limits c.events (length e.path) o) q (good k e l at).proves
 
 no_parts : (path : List Side) (o : Outcome) → ((h : LinearForm) → o ≡ Cut h → ⊥) → parts_by path o ≡ []
 no_parts path (Inside ranks) plain = refl
@@ -108,14 +108,14 @@ module _ (c : CertView) (i : ℕ) (R : Area) (rest : List Area) (s : WalkState c
   t : Takes c.events i s.waiting e
   t = walked_takes c.events i s.waiting e s.walked at
 
-  both : R ∷ rest ≡ cell_at c e.path ∷ map (cell_at c) t.rest
-  both = s.cells_are ∙ ap (map (cell_at c)) t.first
+  both : R ∷ rest ≡ node_region c e.path ∷ map (node_region c) t.rest
+  both = s.cells_are ∙ ap (map (node_region c)) t.first
 
-  pub cell_is : R ≡ cell_at c e.path
-  cell_is = head_is R (cell_at c e.path) rest (map (cell_at c) t.rest) both
+  pub cell_is : R ≡ node_region c e.path
+  cell_is = head_is R (node_region c e.path) rest (map (node_region c) t.rest) both
 
-  rest_is : rest ≡ map (cell_at c) t.rest
-  rest_is = tail_is R (cell_at c e.path) rest (map (cell_at c) t.rest) both
+  rest_is : rest ≡ map (node_region c) t.rest
+  rest_is = tail_is R (node_region c e.path) rest (map (node_region c) t.rest) both
 
   stacked_here : IsStacked (e.path ∷ t.rest)
   stacked_here = subst IsStacked t.first s.stacked
@@ -125,7 +125,7 @@ module _ (c : CertView) (i : ℕ) (R : Area) (rest : List Area) (s : WalkState c
   few_wait is h q =
       let keeps = subst (λ (x : Entry). AllowsAt c.limits (length x.path) x.outcome) (get_or_from_slice_get c.events i e e at) (is.within.each i e (slice_get_within c.events i e at)) in
       let high : length e.path < c.limits.depth = subst (λ (o : Outcome). AllowsAt c.limits (length e.path) o) q keeps in
-      omega (arith, ap length rest_is, length-map t.rest (cell_at c), stacked_here.0, high, is.limits_are.depth)
+      omega (arith, ap length rest_is, length-map t.rest (node_region c), stacked_here.0, high, is.limits_are.depth)
 
   pub walk_good : Proves R c.limits c.events (length e.path) e.outcome → IsProvedOf R e.outcome → IsGood c e
   walk_good proves sound = record {
@@ -134,20 +134,20 @@ module _ (c : CertView) (i : ℕ) (R : Area) (rest : List Area) (s : WalkState c
   }
 
   -- the cells of its parts come before the others
-  pub walk_next : Proves R c.limits c.events (length e.path) e.outcome → IsProvedOf R e.outcome → (parts : List Area) → parts ≡ map (cell_at c) (parts_by e.path e.outcome) → WalkState c (i + 1) (parts ++ rest)
+  pub walk_next : Proves R c.limits c.events (length e.path) e.outcome → IsProvedOf R e.outcome → (parts : List Area) → parts ≡ map (node_region c) (parts_by e.path e.outcome) → WalkState c (i + 1) (parts ++ rest)
   walk_next proves sound parts are = record {
     waiting = parts_by e.path e.outcome ++ t.rest;
     walked = t.next;
-    cells_are = ap₂ (λ (xs ys : List Area). xs ++ ys) are rest_is ∙ sym (map-append (cell_at c) (parts_by e.path e.outcome) t.rest);
+    cells_are = ap₂ (λ (xs ys : List Area). xs ++ ys) are rest_is ∙ sym (map-append (node_region c) (parts_by e.path e.outcome) t.rest);
     stacked = stacked_parts e.path e.outcome t.rest stacked_here;
     good = good_more c i e at s.good (walk_good proves sound);
   }
 
   pub walk_leaf : IsGoodLeaf R c.limits c.events (length e.path) e.outcome → WalkState c (i + 1) rest
-  walk_leaf leaf = walk_next leaf.proves leaf.sound [] (ap (map (cell_at c)) (sym (no_parts e.path e.outcome leaf.no_cut)))
+  walk_leaf leaf = walk_next leaf.proves leaf.sound [] (ap (map (node_region c)) (sym (no_parts e.path e.outcome leaf.no_cut)))
 
   -- the cell of a part
-  part_is : (h : LinearForm) (side : Side) → e.outcome ≡ Cut h → cell_at c (e.path ++ side ∷ []) ≡ R ++ cut_half (Some (Cut h)) side
+  part_is : (h : LinearForm) (side : Side) → e.outcome ≡ Cut h → node_region c (e.path ++ side ∷ []) ≡ R ++ cut_half (Some (Cut h)) side
   part_is h side q =
       region_at-snoc (region_of c.vertices) (outcome_at c.events) e.path side
       ∙ ap₂ (λ (A : Area) (o : Option Outcome). A ++ cut_half o side) (sym cell_is) (walked_outcome c.events i e t.rest at t.is_open ∙ ap Some q)
@@ -156,7 +156,7 @@ module _ (c : CertView) (i : ℕ) (R : Area) (rest : List Area) (s : WalkState c
   walk_cut x y d =
       walk_next (subst (λ (o : Outcome). Proves R c.limits c.events (length e.path) o) (sym d.is_cut) d.parts.divides) (subst (λ (o : Outcome). IsProvedOf R o) (sym d.is_cut) d.parts.divides) (x ∷ y ∷ [])
       (ap₂ (λ (a b : Area). a ∷ b ∷ []) (d.parts.above ∙ sym (part_is d.form Ge d.is_cut)) (d.parts.below ∙ sym (part_is d.form Lt d.is_cut))
-      ∙ ap (λ (o : Outcome). map (cell_at c) (parts_by e.path o)) (sym d.is_cut))
+      ∙ ap (λ (o : Outcome). map (node_region c) (parts_by e.path o)) (sym d.is_cut))
 
   pub walk_fault : (fault : Fault) → Fails R c.limits c.events (length e.path) e.outcome fault → IsFaultOf c i fault
   walk_fault fault wrong = record {
@@ -178,7 +178,7 @@ few_along : (T : Tree) (above rest : List Side) → length (halves_along T above
 few_along T above [] = omega arith
 few_along T above (s ∷ rest) = omega (arith, length-append (cut_half (T above) s) (halves_along T (above ++ s ∷ []) rest), few_half (T above) s, few_along T (above ++ s ∷ []) rest)
 
-pub few_at : (c : CertView) → IsCertificate c → (path : List Side) → length (cell_at c path) ≤ 16 + length path
+pub few_at : (c : CertView) → IsCertificate c → (path : List Side) → length (node_region c path) ≤ 16 + length path
 few_at c is path =
     omega (arith, length-append (region_of c.vertices) (halves_along (outcome_at c.events) [] path), few_along (outcome_at c.events) [] path, few_halves c.vertices (region_of c.vertices) is.polygon.counted refl)
 

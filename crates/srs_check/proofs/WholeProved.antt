@@ -27,7 +27,7 @@ use Rattle.srs_tree.proofs.Listed.{listed}
 use Rattle.srs_cert.specs.Certificates.{CertView}
 use Rattle.srs_check.specs.Listed.{RankList, IsListed, IsBelow, ProvesInside}
 use Rattle.srs_check.specs.Budgets.{nodes_upto, nodes_at, SpendsCells}
-use Rattle.srs_check.specs.Proving.{Proves, ProvesItself, cell_at}
+use Rattle.srs_check.specs.Proving.{Proves, ProvesItself, node_region}
 use Rattle.srs_check.specs.Whole.{IsOfWhole, WholeIsProved}
 use Rattle.srs_cert.proofs.Preordered.{walked_all, walked_takes, walked_outcome}
 use Rattle.srs_check.proofs.WholeCounts.{preorder_same, upto_same, row_same}
@@ -96,7 +96,7 @@ module _ (c : CertView) (budget : IsBudget c.limits) (w : IsOfWhole c) where
   same : (p : List Side) → outcome_at c.events p ≡ outcome_at w.history p
   same p = ap (λ (E : History). outcome_at E p) w.events_are ∙ preorder_same (region_of c.vertices) w.history w.snapshot w.stands p
 
-  region_same : (p : List Side) → cell_at c p ≡ region_at (region_of c.vertices) (outcome_at w.history) p
+  region_same : (p : List Side) → node_region c p ≡ region_at (region_of c.vertices) (outcome_at w.history) p
   region_same p = ap (λ (T : Tree). region_at (region_of c.vertices) T p) (λ i. λ q. same q i)
 
   module _ (i : ℕ) (e : Entry) (at : slice_get c.events i ≡ Some e) where
@@ -113,7 +113,7 @@ module _ (c : CertView) (budget : IsBudget c.limits) (w : IsOfWhole c) where
     node = by_plan (w.whole.each_event e (has_event w.history e.path e.outcome outcome_is))
       where
         by_plan : IsByPlan (region_of c.vertices) c.limits w.history e → ProvesItself c e
-        by_plan (inl q) = subst (Proves (cell_at c e.path) c.limits c.events (length e.path)) (sym q) tt
+        by_plan (inl q) = subst (Proves (node_region c e.path) c.limits c.events (length e.path)) (sym q) tt
         by_plan (inr r) =
             subst (λ (R : Area). Proves R c.limits c.events (length e.path) e.outcome) (sym (region_same e.path))
             (proves_refined (region_at (region_of c.vertices) (outcome_at w.history) e.path) c.limits c.events w.history (length e.path)

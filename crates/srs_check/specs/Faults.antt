@@ -16,7 +16,7 @@ use Rattle.srs_check.specs.declared.faults.Checked.{Checked}
 use Rattle.srs_check.specs.declared.faults.Checked.TheVariants.{Valid, Bad}
 use Rattle.srs_check.specs.Listed.{IsInsideFault}
 use Rattle.srs_check.specs.Budgets.{SpendsCells}
-use Rattle.srs_check.specs.Proving.{ProvesItself, IsProved, cell_at}
+use Rattle.srs_check.specs.Proving.{ProvesItself, IsProved, node_region}
 
 -- a point of R breaks the cycle, first at its place i
 abbrev pub IsCycleFault : Area → List ℤ → Fault → Type 0
@@ -36,7 +36,7 @@ Fails R L H k (Left Memory) fault = ⊥
 pub record IsFaultOf (c : CertView) (node : ℕ) (fault : Fault) : Type 0 where
   pub entry : Entry
   pub is : slice_get c.events node ≡ Some entry
-  pub wrong : Fails (cell_at c entry.path) c.limits c.events (length entry.path) entry.outcome fault
+  pub wrong : Fails (node_region c entry.path) c.limits c.events (length entry.path) entry.outcome fault
   pub before : (k : ℕ) (e : Entry) → k < node → slice_get c.events k ≡ Some e → ProvesItself c e
 
 -- the fault is that of the first node that doesn't prove itself, and the line is where this node begins

@@ -27,12 +27,12 @@ Proves R L H k (Left Thin) = HasNoGridLine R
 Proves R L H k (Left Memory) = ⊤
 
 -- the region of the cell at the path
-abbrev pub cell_at : CertView → List Side → Area
-cell_at c path = region_at (region_of c.vertices) (outcome_at c.events) path
+abbrev pub node_region : CertView → List Side → Area
+node_region c path = region_at (region_of c.vertices) (outcome_at c.events) path
 
 -- the node of the entry e meets what it demands
 abbrev pub ProvesItself : CertView → Entry → Type 0
-ProvesItself c e = Proves (cell_at c e.path) c.limits c.events (length e.path) e.outcome
+ProvesItself c e = Proves (node_region c e.path) c.limits c.events (length e.path) e.outcome
 
 -- each node proves itself
 abbrev pub IsProved : CertView → Type 0

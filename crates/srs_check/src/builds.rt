@@ -65,8 +65,11 @@ fn enter(
     requires same { cell.now ≡ region_at tree.old.region (tree_of tree.old) event.now.path }
     requires short { IsShortCut event.now.path event.now.outcome }
     requires proved { IsProvedOf cell.now event.now.outcome }
-    ensures entered { OnOk result (tree.new ≡ with_entry tree.old event.now.path (as_built event.now.outcome)) }
-    ensures parts { IfOk result (λ parts. cells_from parts ≡ map (cell_in tree.new) (parts_by event.now.path (as_built event.now.outcome))) }
+    ensures entered { OnOk result
+        (tree.new ≡ with_entry tree.old event.now.path (as_built event.now.outcome)) }
+    ensures parts { IfOk result
+        (λ parts. cells_from parts ≡
+        map (cell_in tree.new) (parts_by event.now.path (as_built event.now.outcome))) }
 {
     let found = finding(alloc, cell, &event.outcome)?;
     tree.add(alloc, place, event.path, found)

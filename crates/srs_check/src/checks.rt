@@ -53,7 +53,8 @@ pub(crate) fn root_of(alloc: Global, c: &Cert) -> Result<Cell, NoMemory>
 // The first node that doesn't prove itself, and its fault.
 fn first_fault(alloc: Global, c: &Cert, root: Cell) -> Result<Option<(u32, Fault)>, NoMemory>
     requires { root ≡ region_of c.now.vertices }
-    ensures fault { IfOk result (λ found. MatchOption found (IsProved c.now) (λ f. IsFaultOf c.now f.0 f.1)) }
+    ensures fault { IfOk result
+        (λ found. MatchOption found (IsProved c.now) (λ f. IsFaultOf c.now f.0 f.1)) }
     ensures certified { IfOk result (λ found. IfNone found (IsCertified c.now)) }
     ensures whole { IsOfWhole c.now → IfOk result IsNone }
 {

@@ -53,8 +53,11 @@ fn check_unit(ranks: &Ranks, w: V2) -> Result<(), Fault>
 fn check_entry(cell: &Cell, ranks: &Ranks, i: u32) -> Result<(), Fault>
     requires there { i < length ranks.now }
     requires list { IsRankList ranks.now }
-    ensures ok { OnOk result ((e : V2 × ℕ) → slice_get ranks.now i ≡ Some e → IsClosedAt cell.now ranks.now e) }
-    ensures err { IfErr result (λ fault. (e : V2 × ℕ) → slice_get ranks.now i ≡ Some e → IsFaultAt cell.now ranks.now e fault) }
+    ensures ok { OnOk result
+        ((e : V2 × ℕ) → slice_get ranks.now i ≡ Some e → IsClosedAt cell.now ranks.now e) }
+    ensures err { IfErr result
+        (λ fault. (e : V2 × ℕ) → slice_get ranks.now i ≡ Some e →
+        IsFaultAt cell.now ranks.now e fault) }
 {
     let (w, rank) = ranks.entry(i);
     check_ahead(cell, ranks, w, rank)?;
@@ -111,7 +114,8 @@ fn stays_up(w: V2, rank: u32, reached: u32) -> bool
 fn check_back(cell: &Cell, ranks: &Ranks, w: V2) -> Result<(), Fault>
     requires { IsNarrow w }
     ensures ok { OnOk result ((v : V2) → LeadsBackTo cell.now w v → IsListed ranks.now v) }
-    ensures err { IfErr result (λ fault. (j : ℤ) × (fault ≡ NotClosed w j) × IsFirstMissing cell.now ranks.now w j) }
+    ensures err { IfErr result
+        (λ fault. (j : ℤ) × (fault ≡ NotClosed w j) × IsFirstMissing cell.now ranks.now w j) }
 {
     let span = mirrored_steps_from(cell, w);
     let mut place = place_for(ranks, span.pair(w, 0));

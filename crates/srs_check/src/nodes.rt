@@ -40,8 +40,11 @@ pub(crate) fn test_node(
 ) -> Result<Tested, NoMemory>
     requires there { i < length c.now.events }
     requires rows { CountsRows c.now.events rows.now }
-    requires few { (e : Entry) → slice_get c.now.events i ≡ Some e → length cell.now ≤ 16 + length e.path }
-    ensures { IfOk result (λ t. (e : Entry) → slice_get c.now.events i ≡ Some e → IsTested cell.now c.now.limits c.now.events (length e.path) e.outcome t) }
+    requires few { (e : Entry) → slice_get c.now.events i ≡ Some e →
+        length cell.now ≤ 16 + length e.path }
+    ensures { IfOk result
+        (λ t. (e : Entry) → slice_get c.now.events i ≡ Some e →
+        IsTested cell.now c.now.limits c.now.events (length e.path) e.outcome t) }
 {
     let event = c.events().get(i as u64);
     if let Outcome::Cut(h) = event.outcome.as_ref() {
@@ -58,9 +61,11 @@ pub(crate) fn test_node(
 // Whether the node of the event, which has this cell, proves itself. No part is made.
 pub(crate) fn check_node(c: &Cert, rows: &Rows, cell: &Cell, event: &Event) -> Result<(), Fault>
     requires { CountsRows c.now.events rows.now }
-    ensures ok { OnOk result (Proves cell.now c.now.limits c.now.events (length event.now.path) event.now.outcome) }
+    ensures ok { OnOk result
+        (Proves cell.now c.now.limits c.now.events (length event.now.path) event.now.outcome) }
     ensures sound { OnOk result (IsProvedOf cell.now event.now.outcome) }
-    ensures err { IfErr result (Fails cell.now c.now.limits c.now.events (length event.now.path) event.now.outcome) }
+    ensures err { IfErr result
+        (Fails cell.now c.now.limits c.now.events (length event.now.path) event.now.outcome) }
 {
     let depth = event.path.len();
     match event.outcome.as_ref() {

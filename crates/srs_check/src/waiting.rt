@@ -66,7 +66,8 @@ impl<T: Drop> Waiting<T> {
 
 // One cell more, where there is room.
 fn push<T: Drop>(cells: &mut SmallVec<Option<T>, 48>, cell: T)
-    ensures { KeepsRoom cells.old.items cells.old.capacity → length cells.old.items < 48 → IsPushed cells.old.items cells.new.items cells.new.capacity cell }
+    ensures { KeepsRoom cells.old.items cells.old.capacity → length cells.old.items < 48 →
+        IsPushed cells.old.items cells.new.items cells.new.capacity cell }
 {
     let _ = cells.push(Some(cell));
 }

@@ -56,7 +56,8 @@ impl Claims {
     pub fn new(alloc: Global, n: u64, seats: u64) -> Result<(Claims, ClaimSeat), NoMemory>
         requires { (n < 2 ^ 32) × (1 ≤ seats) × (seats ≤ 2 ^ 32) }
         ensures claims { IfOk result (λ r. r.0.n ≡ n) }
-        ensures seat { IfOk result (λ r. r.1 ≡ record { of = r.0; drawn = []; ended = false; spare = seats - 1 }) }
+        ensures seat { IfOk result
+            (λ r. r.1 ≡ record { of = r.0; drawn = []; ended = false; spare = seats - 1 }) }
     {
         let bounds = Bounds { n, seats };
         match Table::of_words(alloc, &[0], &bounds) {
@@ -74,7 +75,8 @@ impl Claims {
     pub fn draw(&self, seat: &mut ClaimSeat) -> Option<u64>
         requires { seat.old.of ≡ self.now }
         ensures below { IfSome result (λ t. (t < self.now.n) × (times t seat.old.drawn ≡ 0)) }
-        ensures some { IfSome result (λ t. seat.new ≡ record seat.old { drawn = seat.old.drawn ++ t ∷ [] }) }
+        ensures some { IfSome result
+            (λ t. seat.new ≡ record seat.old { drawn = seat.old.drawn ++ t ∷ [] }) }
         ensures going { IfSome result (λ t. seat.old.ended ≡ false) }
         ensures none { IfNone result (seat.new ≡ record seat.old { ended = true }) }
     {
@@ -109,7 +111,8 @@ impl Claims {
         requires { (seat.old.of ≡ self.now) × (other.of ≡ self.now) }
         ensures once { AreDistinct seat.old.drawn other.drawn }
         ensures below { AreBelow self.now.n seat.new.drawn }
-        ensures seat { seat.new ≡ record seat.old { drawn = seat.old.drawn ++ other.drawn; spare = seat.old.spare + other.spare } }
+        ensures seat { seat.new ≡ record seat.old
+            { drawn = seat.old.drawn ++ other.drawn; spare = seat.old.spare + other.spare } }
     {
         let ClaimSeat { seat: other, .. } = other;
         let shared = &self.table.shared;

@@ -16,7 +16,7 @@ use Rattle.srs_turn.proofs.PrefixLemmas.{begins_trans}
 use Rattle.srs_tree.specs.Tree.{History, outcome_at, IsCellOf}
 use Rattle.srs_tree.specs.Legality.{IsLegal}
 use Rattle.srs_tree.specs.declared.queries.Said.{Said}
-use Rattle.srs_tree.specs.Rounds.{cells_of, upto, row_of, IsPlanned}
+use Rattle.srs_tree.specs.Rounds.{cells_of, upto, row_of, IsPlanned, AreRowsDone}
 use Rattle.srs_tree.specs.Snapshots.{Snapshot, StandsFor}
 use Rattle.srs_tree.proofs.Bounded.{last_at_depth, upto_within, depth_within, by_planned, count_some}
 use Rattle.srs_tree.proofs.CellsLemmas.{cells_are}
@@ -28,7 +28,7 @@ use Rattle.srs_atlas.specs.declared.counts.Counts.{Counts}
 use Rattle.srs_atlas.specs.Books.{IsLawful}
 use Rattle.srs_atlas.specs.Counting.{AreCounts}
 use Rattle.srs_atlas.proofs.Entries.{closed_stays}
-use Rattle.srs_crew.specs.Rounds.{IsPlanRound, IsRoundDone, AreRowsDone, AreAllDone}
+use Rattle.srs_crew.specs.Rounds.{IsPlanRound, IsRoundDone, AreAllDone}
 use Rattle.srs_crew.specs.Runs.{IsRun}
 
 pub rows_none : (H : History) → AreRowsDone H 0

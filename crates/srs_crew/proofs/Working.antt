@@ -34,7 +34,7 @@ use Rattle.srs_tree.proofs.QueueLemmas.{queue_is}
 use Rattle.srs_atlas.specs.declared.book.Terms.{Terms}
 use Rattle.srs_atlas.specs.declared.commits.Commit.TheVariants.{Done, NotThere, OtherCell}
 use Rattle.srs_atlas.specs.Books.{AreTerms, IsLawful, cell_at, waiting_in}
-use Rattle.srs_atlas.specs.Commits.{event_at, FitsPlan, Answers}
+use Rattle.srs_atlas.specs.Commits.{event_at, FitsPlan, RepliesWith}
 use Rattle.srs_atlas.proofs.Entries.{closed_stays}
 use Rattle.srs_crew.specs.Rounds.{IsPlanRound, IsRound, IsOfRound, IsWork, AreWork, AreFromRound, TakesOfRound, IsRoundDone, AreDone}
 
@@ -110,17 +110,17 @@ module _ (terms : Terms) (seen : History) (last : Option Last) (c : WaitingCell)
 
   -- what a commit's answer can't be
   module _ (f : Found) (before after : History) (b : Begins seen before) (path : List Side) (e : path ≡ c.path) where
-    pub not_there : (p : List Side) → Answers terms before path f (NotThere p) after → ⊥
+    pub not_there : (p : List Side) → RepliesWith terms before path f (NotThere p) after → ⊥
     not_there p a = a.1 (subst (IsCellOf (outcome_at before)) (sym e) (cell_stands before b))
 
-    pub not_other : (d : Arc Cell Global) → f.region ≡ c.region → IsLawful terms after → Answers terms before path f (OtherCell d) after → ⊥
+    pub not_other : (d : Arc Cell Global) → f.region ≡ c.region → IsLawful terms after → RepliesWith terms before path f (OtherCell d) after → ⊥
     not_other d same lawful a = a.3 (same ∙ region_stands before b (subst (IsLawful terms) a.0 lawful) ∙ ap (region_at terms.root (outcome_at before)) (sym e) ∙ sym a.2)
 
 pub outcome_same : (R S : Area) (V W : ℕ) (last : Option Last) (o : Outcome) → R ≡ S → V ≡ W → (o ≡ Left Memory) ⊎ Refines R last V o → (o ≡ Left Memory) ⊎ Refines S last W o
 outcome_same R S V W last o r w (inl m) = inl m
 outcome_same R S V W last o r w (inr t) = inr (subst (λ (n : ℕ). Refines S last n o) w (subst (λ (X : Area). Refines X last V o) r t))
 
-pub by_done : (terms : Terms) (before after : History) (path : List Side) (f : Found) (n : ℕ) → Answers terms before path f (Done n) after → IsSome (outcome_at after path)
+pub by_done : (terms : Terms) (before after : History) (path : List Side) (f : Found) (n : ℕ) → RepliesWith terms before path f (Done n) after → IsSome (outcome_at after path)
 by_done terms before after path f n a = subst (λ (K : History). IsSome (outcome_at K path)) (sym a.1) (subst IsSome (sym (outcome_there before (event_at path f.outcome) a.0.is_open.open_yet)) refl)
 
 -- a list that takes a cell at its end

@@ -107,10 +107,6 @@ IsFoundOf R last w o = (o ≡ Left Memory) ⊎ Refines R last w o
 pub record AreDone (cells : List WaitingCell) (i k : ℕ) (seen : History) : Type 0 where
   pub each : (j : ℕ) (c : WaitingCell) → j < i → slice_get cells j ≡ Some c → length c.path ≡ k → IsSome (outcome_at seen c.path)
 
--- each cell of H on a path shorter than k has its event
-pub record AreRowsDone (H : History) (k : ℕ) : Type 0 where
-  pub each : (path : List Side) → IsCellOf (outcome_at H) path → length path < k → IsSome (outcome_at H path)
-
 -- each cell of H has its event
 pub record AreAllDone (H : History) : Type 0 where
   pub each : (path : List Side) → IsCellOf (outcome_at H) path → IsSome (outcome_at H path)

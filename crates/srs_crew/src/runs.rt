@@ -2,7 +2,8 @@
 ghost use Rattle.std.specs.Prelude.{◌≡◌, ◌≤◌, ◌+◌, length, Some, IfOk, OnOk, IsTrue};
 ghost use Rattle.srs_turn.specs.Prefixes.{Begins};
 ghost use Rattle.srs_turn.specs.Passes.{IsPassOf};
-ghost use Rattle.srs_crew.specs.Rounds.{AreRowsDone, AreAllDone};
+ghost use Rattle.srs_tree.specs.Rounds.{AreRowsDone};
+ghost use Rattle.srs_crew.specs.Rounds.{AreAllDone};
 ghost use Rattle.srs_crew.specs.Runs.{IsRun};
 
 use crate::rounds::{Job, level};

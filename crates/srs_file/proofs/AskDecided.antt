@@ -16,7 +16,7 @@ use Rattle.srs_file.specs.declared.questions.Questions.{Questions}
 use Rattle.srs_file.specs.declared.ask_reader.AskReader.{AskReader}
 use Rattle.srs_file.specs.Ring.{no_ring, IsGrowing}
 use Rattle.srs_file.specs.Questions.{orbit_numbers}
-use Rattle.srs_file.specs.QuestionReading.{SaysPlace, IsPlaceSlip, SaysOrbit, IsOrbitSlip, Asks, StepsVertex, StepsQuestion, SlipsAsked, TakesQuestion, SlipsQuestion}
+use Rattle.srs_file.specs.QuestionReading.{SaysPlace, IsPlaceSlip, SaysOrbit, IsOrbitSlip, AddsQuery, StepsVertex, StepsQuestion, SlipsAsked, TakesQuestion, SlipsQuestion}
 use Rattle.srs_file.specs.AskReading.{ask_start, EndsHere, StepsAsking, AskSteps, AskSlips, AskEnds}
 use Rattle.srs_file.proofs.RingDecided.{int_le_decided, within_decided, near_decided, ring_decided, ring_keeps}
 use Rattle.srs_file.proofs.OutlineDecided.{flag_decided, no_ring_grows, opens_decided, opens_keeps}
@@ -71,7 +71,7 @@ orbit_decided line =
     ]
 
 -- the question is put at the end
-asks : (s : Questions) (query : Query) → (t : Questions) × Asks s query t
+asks : (s : Questions) (query : Query) → (t : Questions) × AddsQuery s query t
 asks s query = (record s { queries = s.queries ++ query ∷ [] }, refl)
 
 question_decided : (s : Questions) (line : List ℕ) → Goes (StepsQuestion s line) (SlipsAsked line)

@@ -2,7 +2,7 @@
 use Rattle.std.proofs.Common.{◌≡◌, ◌++◌, Bool, true, false, ℕ, List, [], ◌∷◌, length, codes, refl, sym, ap, ◌∙◌, inl, inr, append_assoc, append-nil}
 use Rattle.std.proofs.lemmas.List.Concat.{flat_map-append}
 use Rattle.srs_tree.specs.declared.queries.Query.{Query}
-use Rattle.srs_line.specs.Machine.{joined, Runs, IsRead}
+use Rattle.srs_line.specs.Machine.{lines_text, Runs, IsRead}
 use Rattle.srs_line.specs.declared.slip.FileErr.{FileErr}
 use Rattle.srs_line.specs.declared.slip.FileErr.TheVariants.{At, NoMemory}
 use Rattle.srs_line.proofs.MachineLaws.{never_both}
@@ -99,22 +99,22 @@ asked start last (line ∷ []) (u, (a, inr (ends', inr (here, e))), plain, runs)
 }
 asked start last (line ∷ l ∷ lines) (u, (a, inr (ends', inr (here, e))), plain, runs) ends open_still end = absurd (runs.1.0 (rw e refl))
 
-joined_append : (xs ys : List (List ℕ)) → joined (xs ++ ys) ≡ joined xs ++ joined ys
+joined_append : (xs ys : List (List ℕ)) → lines_text (xs ++ ys) ≡ lines_text xs ++ lines_text ys
 joined_append xs ys = flat_map-append (λ (x : List ℕ). x ++ 10 ∷ []) xs ys
 
 pub read_is_ask : (text : List ℕ) (last : AskReader) → IsRead AskSteps AskEnds ask_start text last → SpellsAsk text (read_view last.cert) last.questions.queries
 read_is_ask text last (count, reaches, end) =
     let cut = parts ask_start last reaches.lines reaches.good (not_ended cert_start no_questions) end in
     let behind = asked (with_cert cut.cert) last cut.back cut.asked cut.ends (not_ended cut.cert no_questions) end in
-    let certificate : IsRead CertSteps CertEnds cert_start (joined cut.front) cut.cert =
-    (length cut.front, record { lines = cut.front; count_is = refl; whole = sym (append-nil (joined cut.front)); good = cut.read }, cut.ends) in
+    let certificate : IsRead CertSteps CertEnds cert_start (lines_text cut.front) cut.cert =
+    (length cut.front, record { lines = cut.front; count_is = refl; whole = sym (append-nil (lines_text cut.front)); good = cut.read }, cut.ends) in
     let none : IsAsked no_questions [] = record { texts = []; asked = tt; ring = []; ring_is = inr (refl, refl); whole = refl } in
     let so = lines_asked no_questions behind.questions behind.front [] behind.read none in
-    let questions : joined behind.front ≡ flat so.texts = all_asked behind.questions (joined behind.front) behind.closed so in
-    let back : joined cut.back ≡ flat so.texts ++ ended (codes "end") = ap joined behind.lines_are ∙ joined_append behind.front (codes "end" ∷ []) ∙ rw questions refl in
-    let all : text ≡ (joined cut.front ++ flat so.texts) ++ ended (codes "end") =
-    reaches.whole ∙ append-nil (joined reaches.lines) ∙ ap joined cut.lines_are ∙ joined_append cut.front cut.back ∙ ap (λ x. joined cut.front ++ x) back ∙ sym (append_assoc (joined cut.front) (flat so.texts) (ended (codes "end"))) in
-    rw behind.last_is (record { certificate = joined cut.front; of_certificate = read_is_cert (joined cut.front) cut.cert certificate; questions = so.texts; of_questions = so.asked; whole = all })
+    let questions : lines_text behind.front ≡ flat so.texts = all_asked behind.questions (lines_text behind.front) behind.closed so in
+    let back : lines_text cut.back ≡ flat so.texts ++ ended (codes "end") = ap lines_text behind.lines_are ∙ joined_append behind.front (codes "end" ∷ []) ∙ rw questions refl in
+    let all : text ≡ (lines_text cut.front ++ flat so.texts) ++ ended (codes "end") =
+    reaches.whole ∙ append-nil (lines_text reaches.lines) ∙ ap lines_text cut.lines_are ∙ joined_append cut.front cut.back ∙ ap (λ x. lines_text cut.front ++ x) back ∙ sym (append_assoc (lines_text cut.front) (flat so.texts) (ended (codes "end"))) in
+    rw behind.last_is (record { certificate = lines_text cut.front; of_certificate = read_is_cert (lines_text cut.front) cut.cert certificate; questions = so.texts; of_questions = so.asked; whole = all })
 
 pub ask_is_read : (text : List ℕ) (c : CertView) (queries : List Query) → SpellsAsk text c queries → ReadsAsAsk text c queries
 ask_is_read text c queries s =
@@ -126,8 +126,8 @@ ask_is_read text c queries s =
     let end : Runs AskSteps (with_questions cert false (after queries)) (codes "end" ∷ []) last = (last, (not_ended cert (after queries), inr (ends, inr ((refl, refl), refl))), end_no_lf, refl) in
     let behind = runs_append AskSteps (with_cert cert) (with_questions cert false (after queries)) last asking.lines (codes "end" ∷ []) then end in
     let lines = reaches.lines ++ (asking.lines ++ codes "end" ∷ []) in
-    let certificate : joined reaches.lines ≡ s.certificate = sym (reaches.whole ∙ append-nil (joined reaches.lines)) in
-    let parts : joined lines ≡ s.certificate ++ (flat s.questions ++ ended (codes "end")) =
+    let certificate : lines_text reaches.lines ≡ s.certificate = sym (reaches.whole ∙ append-nil (lines_text reaches.lines)) in
+    let parts : lines_text lines ≡ s.certificate ++ (flat s.questions ++ ended (codes "end")) =
     joined_append reaches.lines (asking.lines ++ codes "end" ∷ []) ∙ rw (certificate, joined_append asking.lines (codes "end" ∷ []), asking.spelled) refl in (
       last,
       (
@@ -135,7 +135,7 @@ ask_is_read text c queries s =
         record {
           lines = lines;
           count_is = refl;
-          whole = s.whole ∙ append_assoc s.certificate (flat s.questions) (ended (codes "end")) ∙ sym parts ∙ sym (append-nil (joined lines));
+          whole = s.whole ∙ append_assoc s.certificate (flat s.questions) (ended (codes "end")) ∙ sym parts ∙ sym (append-nil (lines_text lines));
           good = runs_append AskSteps ask_start (with_cert cert) last reaches.lines (asking.lines ++ codes "end" ∷ []) first behind;
         },
         refl,

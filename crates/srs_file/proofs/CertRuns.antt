@@ -4,7 +4,7 @@ use Rattle.srs_plane.specs.declared.polygons.Vertex.{Vertex}
 use Rattle.srs_plane.specs.Polygons.{IsPolygon}
 use Rattle.srs_line.specs.declared.slip.FileErr.{FileErr}
 use Rattle.srs_line.specs.declared.slip.FileErr.TheVariants.{At, NoMemory}
-use Rattle.srs_line.specs.Machine.{joined, Runs}
+use Rattle.srs_line.specs.Machine.{lines_text, Runs}
 use Rattle.srs_line.specs.Fields.{line_of}
 use Rattle.srs_line.proofs.MachineLaws.{never_both}
 use Rattle.srs_line.proofs.MachineLemmas.{runs_append, runs_inside}
@@ -53,16 +53,16 @@ text_is_cert text c s =
     ) in
     let middle = runs_append CertSteps (with_outline no_outline) (with_outline whole) ends.last (outline_lines vs) (limits ∷ event_lines c.events) (polygon_read vs is.polygon) tail in
     let one = count_fits 1 (omega arith) in
-    let parts : joined lines ≡ ended srs ++ (ring_text vs ++ (ended limits ++ (events_text c.events ++ ended (codes "end")))) =
+    let parts : lines_text lines ≡ ended srs ++ (ring_text vs ++ (ended limits ++ (events_text c.events ++ ended (codes "end")))) =
     ap (λ x. ended srs ++ x) (joined_outline vs (limits ∷ event_lines c.events) ∙ ap (λ x. ring_text vs ++ (ended limits ++ x)) (joined_events c.events)) in
-    let all : cert_text c ≡ joined lines = regroup (ended srs) (ring_text vs) (ended limits) (events_text c.events) (ended (codes "end")) ∙ sym parts in (
+    let all : cert_text c ≡ lines_text lines = regroup (ended srs) (ring_text vs) (ended limits) (events_text c.events) (ended (codes "end")) ∙ sym parts in (
       ends.last,
       (
         length lines,
         record {
           lines = lines;
           count_is = refl;
-          whole = s.spelled ∙ all ∙ sym (append-nil (joined lines));
+          whole = s.spelled ∙ all ∙ sym (append-nil (lines_text lines));
           good = (with_outline no_outline, (says_line (codes "srs") (pos 1 ∷ []) srs_plain one, refl), line_no_lf (codes "srs") (pos 1 ∷ []) srs_plain one, middle);
         },
         ends.done,

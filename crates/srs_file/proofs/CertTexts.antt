@@ -2,7 +2,7 @@
 use Rattle.std.proofs.Common.{◌≡◌, ◌+◌, ◌++◌, ℕ, pos, List, [], ◌∷◌, length, codes, flat_map, refl, sym, ap, ◌∙◌, inl, inr, arith, append_assoc, append-nil}
 use Rattle.srs_path.specs.Views.{Budget}
 use Rattle.srs_tree.specs.WholeTrees.{ListsWholeTree}
-use Rattle.srs_line.specs.Machine.{joined, Runs, IsRead}
+use Rattle.srs_line.specs.Machine.{lines_text, Runs, IsRead}
 use Rattle.srs_line.proofs.LineTexts.{said_is}
 use Rattle.srs_file.specs.declared.cert_reader.CertPhase.{CertPhase}
 use Rattle.srs_file.specs.declared.cert_reader.CertPhase.TheVariants.{First, Polygon, Nodes, Done}
@@ -60,12 +60,12 @@ step_text Nodes s t line at (inl (a, tree, p, e)) fine =
 step_text Nodes s t line at (inr (a, p, e)) fine = rw (e, p) (refl, (fine.0, fine.1, a))
 step_text Done s t line at p fine = absurd p
 
-runs_text : (s t : CertReader) (lines : List (List ℕ)) → Runs CertSteps s lines t → IsFine s.phase s → (spelled t.phase t ≡ spelled s.phase s ++ joined lines) × IsFine t.phase t
+runs_text : (s t : CertReader) (lines : List (List ℕ)) → Runs CertSteps s lines t → IsFine s.phase s → (spelled t.phase t ≡ spelled s.phase s ++ lines_text lines) × IsFine t.phase t
 runs_text s t [] e fine = rw (← e) (sym (append-nil (spelled s.phase s)), fine)
 runs_text s t (line ∷ lines) (u, step, plain, runs) fine =
     let one = step_text s.phase s u line refl step fine in
     let more = runs_text u t lines runs one.1 in
-    (more.0 ∙ ap (λ x. x ++ joined lines) one.0 ∙ append_assoc (spelled s.phase s) (ended line) (joined lines), more.1)
+    (more.0 ∙ ap (λ x. x ++ lines_text lines) one.0 ∙ append_assoc (spelled s.phase s) (ended line) (lines_text lines), more.1)
 
 whole_text : (s : CertReader) → IsFine Done s → spelled Done s ≡ cert_text (read_view s)
 whole_text s fine =
@@ -91,5 +91,5 @@ pub read_is_cert : (text : List ℕ) (last : CertReader) → IsRead CertSteps Ce
 read_is_cert text last (count, reaches, end) =
     let all = runs_text cert_start last reaches.lines reaches.good refl in
     let fine : IsFine Done last = rw end at all.1 in
-    let said : spelled Done last ≡ joined reaches.lines = rw end at all.0 in
-    record { certificate = certificate_read last fine; spelled = reaches.whole ∙ append-nil (joined reaches.lines) ∙ sym said ∙ whole_text last fine }
+    let said : spelled Done last ≡ lines_text reaches.lines = rw end at all.0 in
+    record { certificate = certificate_read last fine; spelled = reaches.whole ∙ append-nil (lines_text reaches.lines) ∙ sym said ∙ whole_text last fine }

@@ -21,7 +21,7 @@ use Rattle.srs_tree.specs.Preorder.{event_of, preorder_of}
 use Rattle.srs_tree.proofs.StandsLemmas.{ties}
 use Rattle.srs_tree.proofs.PlannedSteps.{outcome_of_event}
 use Rattle.srs_text.specs.Line.{HasNoLf}
-use Rattle.srs_line.specs.Machine.{joined}
+use Rattle.srs_line.specs.Machine.{lines_text}
 use Rattle.srs_line.specs.Fields.{tokens, line_of}
 use Rattle.srs_line.proofs.MachineLaws.{line_once}
 use Rattle.srs_line.proofs.FieldLaws.{says_once}
@@ -159,16 +159,16 @@ abbrev ArePlain : List (List ℕ) → Type 0
 ArePlain [] = Unit {0}
 ArePlain (line ∷ lines) = HasNoLf line × ArePlain lines
 
-opened : (line : List ℕ) (lines : List (List ℕ)) (rest : List ℕ) → joined (line ∷ lines) ++ rest ≡ line ++ 10 ∷ (joined lines ++ rest)
+opened : (line : List ℕ) (lines : List (List ℕ)) (rest : List ℕ) → lines_text (line ∷ lines) ++ rest ≡ line ++ 10 ∷ (lines_text lines ++ rest)
 opened line lines rest = simp append_assoc
 
 -- so many lines at the front of a text are determined
-lines_once : (xs ys : List (List ℕ)) (a b : List ℕ) → ArePlain xs → ArePlain ys → length xs ≡ length ys → joined xs ++ a ≡ joined ys ++ b → (xs ≡ ys) × (a ≡ b)
+lines_once : (xs ys : List (List ℕ)) (a b : List ℕ) → ArePlain xs → ArePlain ys → length xs ≡ length ys → lines_text xs ++ a ≡ lines_text ys ++ b → (xs ≡ ys) × (a ≡ b)
 lines_once [] [] a b p q n e = (refl, e)
 lines_once [] (y ∷ ys) a b p q n e = absurd (omega arith)
 lines_once (x ∷ xs) [] a b p q n e = absurd (omega arith)
 lines_once (x ∷ xs) (y ∷ ys) a b p q n e =
-    let one = line_once x y (joined xs ++ a) (joined ys ++ b) (sym (opened x xs a) ∙ e ∙ opened y ys b) p.0 q.0 in
+    let one = line_once x y (lines_text xs ++ a) (lines_text ys ++ b) (sym (opened x xs a) ∙ e ∙ opened y ys b) p.0 q.0 in
     let more = lines_once xs ys a b p.1 q.1 (omega arith) one.1 in
     (ap₂ (λ (l : List ℕ) (ls : List (List ℕ)). l ∷ ls) one.0 more.0, more.1)
 
@@ -176,14 +176,14 @@ plain_append : (xs ys : List (List ℕ)) → ArePlain xs → ArePlain ys → Are
 plain_append [] ys p q = q
 plain_append (x ∷ xs) ys p q = (p.0, plain_append xs ys p.1 q)
 
-joined_append : (xs ys : List (List ℕ)) → joined (xs ++ ys) ≡ joined xs ++ joined ys
+joined_append : (xs ys : List (List ℕ)) → lines_text (xs ++ ys) ≡ lines_text xs ++ lines_text ys
 joined_append xs ys = flat_map-append (λ (x : List ℕ). x ++ 10 ∷ []) xs ys
 
 events_plain : (H : History) → ((e : Entry) → Contains H e → IsInRange e.outcome) → ArePlain (map event_line H)
 events_plain [] h = tt
 events_plain (e ∷ H) h = (event_no_lf e (h e (in_front e H)), events_plain H (λ f k. h f (behind e f H k)))
 
-joined_events : (H : History) → joined (map event_line H) ≡ flat_map event_text H
+joined_events : (H : History) → lines_text (map event_line H) ≡ flat_map event_text H
 joined_events [] = refl
 joined_events (e ∷ H) = ap (λ x. event_text e ++ x) (joined_events H)
 
@@ -236,7 +236,7 @@ module _ (vs : List Vertex) (b : Budget) (H : History) (text : List ℕ) (legal 
     (line_no_lf (codes "journal") (pos (length H) ∷ []) (high_plain (codes "journal") (search rules)) (count_fits (length H) few), tt),
   )
 
-  pub text_is : text ≡ joined (head_lines (length H)) ++ (joined (map event_line H ++ codes "end" ∷ []) ++ cert_text cert)
+  pub text_is : text ≡ lines_text (head_lines (length H)) ++ (lines_text (map event_line H ++ codes "end" ∷ []) ++ cert_text cert)
   text_is = t.written ∙ rw (joined_append (map event_line H) (codes "end" ∷ []), joined_events H) (regroup (count_text (codes "live") 1) (count_text (codes "journal") (length H)) (flat_map event_text H) (ended (codes "end")) (cert_text cert))
 
 journal_once : (m n : ℕ) → m ≤ 65536 → n ≤ 65536 → head_lines m ≡ head_lines n → m ≡ n

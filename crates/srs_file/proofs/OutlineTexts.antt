@@ -3,7 +3,7 @@ use Rattle.std.proofs.Common.{◌≡◌, ◌<◌, ◌+◌, ◌++◌, All, Bool, 
 use Rattle.std.proofs.lemmas.List.Elements.{All-from_recursion}
 use Rattle.srs_plane.specs.declared.polygons.Vertex.{Vertex}
 use Rattle.srs_plane.specs.Polygons.{IsPolygon}
-use Rattle.srs_line.specs.Machine.{joined, Runs}
+use Rattle.srs_line.specs.Machine.{lines_text, Runs}
 use Rattle.srs_line.specs.Fields.{line_of}
 use Rattle.srs_line.proofs.MachineLemmas.{runs_inside}
 use Rattle.srs_line.proofs.LineTexts.{said_is}
@@ -69,9 +69,9 @@ head_line vs = line_of (codes "polygon") (pos (length vs) ∷ [])
 abbrev pub outline_lines : List Vertex → List (List ℕ)
 outline_lines vs = head_line vs ∷ vertex_lines vs
 
-pub joined_outline : (vs : List Vertex) (more : List (List ℕ)) → joined (outline_lines vs ++ more) ≡ ring_text vs ++ joined more
+pub joined_outline : (vs : List Vertex) (more : List (List ℕ)) → lines_text (outline_lines vs ++ more) ≡ ring_text vs ++ lines_text more
 joined_outline vs more =
-    ap (λ x. ended (head_line vs) ++ x) (joined_vertices vs more) ∙ sym (append_assoc (ended (head_line vs)) (flat_map vertex_text vs) (joined more))
+    ap (λ x. ended (head_line vs) ++ x) (joined_vertices vs more) ∙ sym (append_assoc (ended (head_line vs)) (flat_map vertex_text vs) (lines_text more))
 
 polygon_plain : All (λ c. 32 < c) (codes "polygon")
 polygon_plain =

@@ -11,7 +11,7 @@ use Rattle.srs_plane.specs.declared.polygons.Vertex.{Vertex}
 use Rattle.srs_plane.specs.Polygons.{IsPolygon, region_of}
 use Rattle.srs_tree.specs.declared.queries.Query.{Query}
 use Rattle.srs_tree.specs.declared.queries.Query.TheVariants.{Fresh, Count, Point, Polygon, Orbit}
-use Rattle.srs_line.specs.Machine.{joined, Runs}
+use Rattle.srs_line.specs.Machine.{lines_text, Runs}
 use Rattle.srs_line.specs.Fields.{line_of}
 use Rattle.srs_line.proofs.MachineLemmas.{runs_append}
 use Rattle.srs_line.proofs.LineTexts.{says_line, line_no_lf}
@@ -34,7 +34,7 @@ after queries = record { ring = no_ring; queries = queries }
 -- lines that ask these questions more, and what they are together
 pub record Asking (before queries : List Query) (text : List ℕ) : Type 0 where
   pub lines : List (List ℕ)
-  pub spelled : joined lines ≡ text
+  pub spelled : lines_text lines ≡ text
   pub runs : Runs TakesQuestion (after before) lines (after (before ++ queries))
 
 place_fits : (r : Place) → IsPtSized r → All (FitsSigned w64) (place_numbers r)
@@ -51,7 +51,7 @@ orbit_fits r z n s =
     All-cons (FitsSigned w64) r.p (r.q ∷ r.d ∷ z.a ∷ z.b ∷ pos n ∷ []) p
     (All-cons (FitsSigned w64) r.q (r.d ∷ z.a ∷ z.b ∷ pos n ∷ []) q (All-cons (FitsSigned w64) r.d (z.a ∷ z.b ∷ pos n ∷ []) d (three_fit z.a z.b (pos n) a b m)))
 
-one_line : (line text : List ℕ) → text ≡ ended line → joined (line ∷ []) ≡ text
+one_line : (line text : List ℕ) → text ≡ ended line → lines_text (line ∷ []) ≡ text
 one_line line text e = append-nil (ended line) ∙ sym e
 
 -- the lines of a ring ask about its polygon
@@ -71,7 +71,7 @@ asks_polygon before text vs p e =
     let head = line_of (codes "region") (pos (length vs) ∷ []) in
     let opens = opened (codes "region") vs region_plain p in
     let some : 0 < length vs = omega (arith, p.counted) in
-    let spelled : joined (head ∷ (vertex_lines vs ++ [])) ≡ text = ap (λ x. ended head ++ x) (joined_vertices vs [] ∙ append-nil _) ∙ sym e in
+    let spelled : lines_text (head ∷ (vertex_lines vs ++ [])) ≡ text = ap (λ x. ended head ++ x) (joined_vertices vs [] ∙ append-nil _) ∙ sym e in
     let bare : vertex_lines vs ++ [] ≡ vertex_lines vs = append-nil (vertex_lines vs) in
     record {
       lines = head ∷ vertex_lines vs;

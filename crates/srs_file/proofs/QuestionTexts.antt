@@ -4,14 +4,14 @@ use Rattle.std.proofs.lemmas.List.Concat.{flat_map-append}
 use Rattle.srs_plane.specs.Polygons.{region_of}
 use Rattle.srs_tree.specs.declared.queries.Query.{Query}
 use Rattle.srs_tree.specs.declared.queries.Query.TheVariants.{Point, Polygon, Orbit}
-use Rattle.srs_line.specs.Machine.{joined, Runs}
+use Rattle.srs_line.specs.Machine.{lines_text, Runs}
 use Rattle.srs_line.proofs.LineTexts.{said_is}
 use Rattle.srs_file.specs.declared.questions.Questions.{Questions}
 use Rattle.srs_cert.specs.Texts.{ended}
 use Rattle.srs_cert.specs.Sayings.{place_numbers}
 use Rattle.srs_file.specs.Questions.{orbit_numbers, IsQuestion, AreQuestions}
 use Rattle.srs_file.specs.Ring.{RingView, no_ring}
-use Rattle.srs_file.specs.QuestionReading.{Asks, TakesQuestion}
+use Rattle.srs_file.specs.QuestionReading.{AddsQuery, TakesQuestion}
 use Rattle.srs_file.proofs.RingTexts.{so_far, opened_text, added}
 
 -- the texts behind one another
@@ -62,7 +62,7 @@ one_more ring queries texts text query zero asked one = record {
   whole = sym (append-nil (flat (texts ++ text ∷ [])) ∙ flat_push texts text);
 }
 
-asks : (s t : Questions) (query : Query) (text line : List ℕ) → s.ring.left ≡ 0 → Asks s query t → IsQuestion (ended line) query → IsAsked s text → IsAsked t (text ++ ended line)
+asks : (s t : Questions) (query : Query) (text line : List ℕ) → s.ring.left ≡ 0 → AddsQuery s query t → IsQuestion (ended line) query → IsAsked s text → IsAsked t (text ++ ended line)
 asks s t query text line zero e one was = rw (e, all_asked s text zero was) (one_more s.ring s.queries was.texts (ended line) query zero was.asked one)
 
 -- a ring is open
@@ -94,8 +94,8 @@ line_asked s t line text (inr (a, inr (inl (word, (ring, (n, says, f), e))))) wa
 line_asked s t line text (inr (a, inr (inr (word, (r, z, n, says, e))))) was =
     asks s t (Orbit r z n) text line a e (says.1, ap ended (said_is (codes "orbit") (orbit_numbers r z (pos n)) line says.0).0) was
 
-pub lines_asked : (s t : Questions) (lines : List (List ℕ)) (text : List ℕ) → Runs TakesQuestion s lines t → IsAsked s text → IsAsked t (text ++ joined lines)
+pub lines_asked : (s t : Questions) (lines : List (List ℕ)) (text : List ℕ) → Runs TakesQuestion s lines t → IsAsked s text → IsAsked t (text ++ lines_text lines)
 lines_asked s t [] text e was = rw (← e, append-nil text) was
 lines_asked s t (line ∷ lines) text (u, step, plain, runs) was =
     let more = lines_asked u t lines (text ++ ended line) runs (line_asked s u line text step was) in
-    rw (append_assoc text (ended line) (joined lines)) at more
+    rw (append_assoc text (ended line) (lines_text lines)) at more

@@ -13,7 +13,7 @@ use Rattle.srs_plane.specs.Polygons.{IsPolygon, region_of}
 use Rattle.srs_plane.specs.Placed.{IsPlaced}
 use Rattle.srs_plane.proofs.Ring_of_vertices.{vertex_at-within}
 use Rattle.srs_plane.proofs.Sizes.{small}
-use Rattle.srs_line.specs.Machine.{joined, Runs}
+use Rattle.srs_line.specs.Machine.{lines_text, Runs}
 use Rattle.srs_line.specs.Fields.{Says, line_of}
 use Rattle.srs_line.proofs.LineTexts.{said_is, says_line, line_no_lf}
 use Rattle.srs_cert.specs.Texts.{ended, kind_word, vertex_text, count_text}
@@ -55,9 +55,9 @@ abbrev pub vertex_lines : List Vertex → List (List ℕ)
 vertex_lines [] = []
 vertex_lines (v ∷ vs) = vertex_line v ∷ vertex_lines vs
 
-pub joined_vertices : (vs : List Vertex) (more : List (List ℕ)) → joined (vertex_lines vs ++ more) ≡ flat_map vertex_text vs ++ joined more
+pub joined_vertices : (vs : List Vertex) (more : List (List ℕ)) → lines_text (vertex_lines vs ++ more) ≡ flat_map vertex_text vs ++ lines_text more
 joined_vertices [] more = refl
-joined_vertices (v ∷ vs) more = ap (λ x. vertex_text v ++ x) (joined_vertices vs more) ∙ sym (append_assoc (vertex_text v) (flat_map vertex_text vs) (joined more))
+joined_vertices (v ∷ vs) more = ap (λ x. vertex_text v ++ x) (joined_vertices vs more) ∙ sym (append_assoc (vertex_text v) (flat_map vertex_text vs) (lines_text more))
 
 kind_plain : (kind : Kind) → All (λ c. 32 < c) (kind_word kind)
 kind_plain Ge = All-from_recursion (λ c. 32 < c) (codes "ge") (omega arith, (omega arith, tt))

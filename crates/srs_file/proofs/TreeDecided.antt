@@ -25,7 +25,7 @@ use Rattle.srs_line.specs.Fields.{Says, HasWord}
 use Rattle.srs_line.proofs.Decided.{Decided, both_decided, same_decided, eq_decided, le_decided, bytes_decided, word_decided, three_decided, count_decided, many_decided, natural}
 use Rattle.srs_file.specs.declared.tree.Tree.{Tree}
 use Rattle.srs_file.specs.Leaf.{LeafView, IsEntry, SaysEntry, Follows, TakesEntry, SlipsEntry}
-use Rattle.srs_file.specs.TreeReading.{left_line, no_leaf, at_path, Settles, Divides, SlipsDivide, HasRoom, CutsBy, SlipsCutBy, StepsCut, SlipsCut, StepsIn, SlipsIn, Counts, StepsOut, SlipsOut, StepsLeft, SlipsLeft, StepsNode, SlipsNode, StepsEntry, TakesLine, SlipsLine}
+use Rattle.srs_file.specs.TreeReading.{left_line, no_leaf, at_path, TakesOutcome, Divides, SlipsDivide, HasRoom, CutsBy, SlipsCutBy, StepsCut, SlipsCut, StepsIn, SlipsIn, Counts, StepsOut, SlipsOut, StepsLeft, SlipsLeft, StepsNode, SlipsNode, StepsEntry, TakesLine, SlipsLine}
 use Rattle.srs_file.proofs.Leaves.{last_split}
 use Rattle.srs_file.proofs.RingDecided.{int_le_decided, within_decided}
 
@@ -110,7 +110,7 @@ next_of : (pending : List (List Side)) → pending ≢ [] → (path : List Side)
 next_of [] some = absurd (some refl)
 next_of (path ∷ rest) some = (path, rest, refl)
 
-settled : (s : Tree) (o : Outcome) → Next s → (t : Tree) × Settles s o t
+settled : (s : Tree) (o : Outcome) → Next s → (t : Tree) × TakesOutcome s o t
 settled s o next = (record s { pending = next.1; events = s.events ++ at_path next.0 o ∷ [] }, (next.0, next.1, next.2, refl))
 
 node_line_decided : (s : Tree) (line : List ℕ) → Next s → 0 < s.leaf.left → Goes (StepsEntry s line) (SlipsEntry s.leaf line)

@@ -14,7 +14,7 @@ use Rattle.srs_line.proofs.FieldLaws.{word_once, says_once, no_field_slip, field
 use Rattle.srs_line.proofs.ManyLaws.{no_many_slip, many_slip_once}
 use Rattle.srs_file.specs.declared.tree.Tree.{Tree}
 use Rattle.srs_file.specs.Leaf.{LeafView}
-use Rattle.srs_file.specs.TreeReading.{left_line, no_leaf, Settles, Divides, SlipsDivide, CutsBy, SlipsCutBy, StepsCut, SlipsCut, StepsIn, StepsOut, SlipsOut, StepsLeft, StepsNode, SlipsNode, StepsEntry, TakesLine, SlipsLine}
+use Rattle.srs_file.specs.TreeReading.{left_line, no_leaf, TakesOutcome, Divides, SlipsDivide, CutsBy, SlipsCutBy, StepsCut, SlipsCut, StepsIn, StepsOut, SlipsOut, StepsLeft, StepsNode, SlipsNode, StepsEntry, TakesLine, SlipsLine}
 use Rattle.srs_file.proofs.LeafLaws.{entry_once, entry_apart, entry_slips}
 
 heads : (p q : List Side) (r k : List (List Side)) → p ∷ r ≡ q ∷ k → p ≡ q
@@ -23,7 +23,7 @@ heads p q r k e = cc
 tails : (p q : List Side) (r k : List (List Side)) → p ∷ r ≡ q ∷ k → r ≡ k
 tails p q r k e = cc
 
-settles_once : (s t u : Tree) (o : Outcome) → Settles s o t → Settles s o u → t ≡ u
+settles_once : (s t u : Tree) (o : Outcome) → TakesOutcome s o t → TakesOutcome s o u → t ≡ u
 settles_once s t u o (p, r, e, f) (q, k, g, h) = let both = sym e ∙ g in rw (f, h, heads p q r k both, tails p q r k both) refl
 
 abbrev form_numbers : LinearForm → List ℤ
@@ -215,8 +215,8 @@ node_slips s line d e m n (inr (inr (inr (inr (none, f, b))))) (inr (inr (inl (v
 node_slips s line d e m n (inr (inr (inr (inr (none, f, b))))) (inr (inr (inr (inl (v, g))))) = absurd (none.left v)
 node_slips s line d e m n (inr (inr (inr (inr (none, f, b))))) (inr (inr (inr (inr (none', g, c))))) = (f ∙ sym g, b ∙ sym c)
 
-finishes_once : (s t u : Tree) (leaf : LeafView) → ((0 < leaf.left) × (t ≡ record s { leaf = leaf })) ⊎ ((leaf.left ≡ 0) × Settles (record s { leaf = no_leaf }) (Inside leaf.entries) t)
-    → ((0 < leaf.left) × (u ≡ record s { leaf = leaf })) ⊎ ((leaf.left ≡ 0) × Settles (record s { leaf = no_leaf }) (Inside leaf.entries) u) → t ≡ u
+finishes_once : (s t u : Tree) (leaf : LeafView) → ((0 < leaf.left) × (t ≡ record s { leaf = leaf })) ⊎ ((leaf.left ≡ 0) × TakesOutcome (record s { leaf = no_leaf }) (Inside leaf.entries) t)
+    → ((0 < leaf.left) × (u ≡ record s { leaf = leaf })) ⊎ ((leaf.left ≡ 0) × TakesOutcome (record s { leaf = no_leaf }) (Inside leaf.entries) u) → t ≡ u
 finishes_once s t u leaf (inl (a, e)) (inl (b, f)) = e ∙ sym f
 finishes_once s t u leaf (inl (a, e)) (inr (b, f)) = absurd (omega arith)
 finishes_once s t u leaf (inr (a, e)) (inl (b, f)) = absurd (omega arith)

@@ -15,7 +15,7 @@ use Rattle.srs_path.specs.Views.{Budget, IsBudget, Entry}
 use Rattle.srs_tree.specs.Tree.{History}
 use Rattle.srs_tree.specs.Rounds.{parts_by}
 use Rattle.srs_tree.specs.WholeTrees.{ListsTrees, AllowsAt, KeepsTo}
-use Rattle.srs_line.specs.Machine.{joined, Runs}
+use Rattle.srs_line.specs.Machine.{lines_text, Runs}
 use Rattle.srs_line.specs.Fields.{line_of}
 use Rattle.srs_line.proofs.LineTexts.{says_line, line_no_lf}
 use Rattle.srs_line.proofs.FieldLaws.{says_word}
@@ -49,18 +49,18 @@ abbrev pub event_lines : History → List (List ℕ)
 event_lines [] = codes "end" ∷ []
 event_lines (e ∷ H) = outcome_lines e.outcome (event_lines H)
 
-joined_entries : (es : List (V2 × ℕ)) (more : List (List ℕ)) → joined (entry_lines es more) ≡ flat_map rank_text es ++ joined more
+joined_entries : (es : List (V2 × ℕ)) (more : List (List ℕ)) → lines_text (entry_lines es more) ≡ flat_map rank_text es ++ lines_text more
 joined_entries [] more = refl
-joined_entries (e ∷ es) more = ap (λ x. rank_text e ++ x) (joined_entries es more) ∙ sym (append_assoc (rank_text e) (flat_map rank_text es) (joined more))
+joined_entries (e ∷ es) more = ap (λ x. rank_text e ++ x) (joined_entries es more) ∙ sym (append_assoc (rank_text e) (flat_map rank_text es) (lines_text more))
 
-joined_outcome : (o : Outcome) (more : List (List ℕ)) → joined (outcome_lines o more) ≡ outcome_text o ++ joined more
+joined_outcome : (o : Outcome) (more : List (List ℕ)) → lines_text (outcome_lines o more) ≡ outcome_text o ++ lines_text more
 joined_outcome (Inside es) more =
-    ap (λ x. count_text (codes "in") (length es) ++ x) (joined_entries es more) ∙ sym (append_assoc (count_text (codes "in") (length es)) (flat_map rank_text es) (joined more))
+    ap (λ x. count_text (codes "in") (length es) ++ x) (joined_entries es more) ∙ sym (append_assoc (count_text (codes "in") (length es)) (flat_map rank_text es) (lines_text more))
 joined_outcome (Outside cycle) more = refl
 joined_outcome (Cut h) more = refl
 joined_outcome (Left cause) more = refl
 
-pub joined_events : (H : History) → joined (event_lines H) ≡ events_text H ++ ended (codes "end")
+pub joined_events : (H : History) → lines_text (event_lines H) ≡ events_text H ++ ended (codes "end")
 joined_events [] = refl
 joined_events (e ∷ H) =
     joined_outcome e.outcome (event_lines H) ∙ ap (λ x. outcome_text e.outcome ++ x) (joined_events H) ∙ sym (append_assoc (outcome_text e.outcome) (events_text H) (ended (codes "end")))

@@ -24,7 +24,7 @@ use Rattle.srs_file.specs.declared.tree.Tree.{Tree}
 use Rattle.srs_cert.specs.Texts.{ended, count_text, rank_text, outcome_text}
 use Rattle.srs_cert.specs.Certificates.{outcomes_of, IsInRange}
 use Rattle.srs_file.specs.Leaf.{LeafView, TakesEntry}
-use Rattle.srs_file.specs.TreeReading.{at_path, no_leaf, only_root, Settles, Divides, HasRoom, StepsNode, StepsEntry, TakesLine}
+use Rattle.srs_file.specs.TreeReading.{at_path, no_leaf, only_root, TakesOutcome, Divides, HasRoom, StepsNode, StepsEntry, TakesLine}
 use Rattle.srs_file.proofs.Leaves.{ascends_push}
 use Rattle.srs_file.proofs.LeafLaws.{entry_numbers}
 
@@ -130,7 +130,7 @@ root_grown b h = record {
 }
 
 -- the next cell has an outcome that is no cut
-settled : (s t : Tree) (o : Outcome) → Settles s o t → s.leaf ≡ no_leaf → IsGrown s → IsInRange o → ((depth : ℕ) → AllowsAt s.limits depth o) → ((path : List Side) → parts_by path o ≡ []) → IsGrown t
+settled : (s t : Tree) (o : Outcome) → TakesOutcome s o t → s.leaf ≡ no_leaf → IsGrown s → IsInRange o → ((depth : ℕ) → AllowsAt s.limits depth o) → ((path : List Side) → parts_by path o ≡ []) → IsGrown t
 settled s t o (path, rest, waits, e) closed g range allowed alone = rw e (record {
   limits_are = g.limits_are;
   leaf_fine = g.leaf_fine;
@@ -168,7 +168,7 @@ closed_is b leaf f e = same leaf.left leaf.entries e (f.none e)
     same left entries e f = rw (e, f) refl
 
 -- the text of a settled cell
-settled_text : (s t : Tree) (o : Outcome) → Settles s o t → s.leaf.left ≡ 0 → tree_text t ≡ tree_text s ++ outcome_text o
+settled_text : (s t : Tree) (o : Outcome) → TakesOutcome s o t → s.leaf.left ≡ 0 → tree_text t ≡ tree_text s ++ outcome_text o
 settled_text s t o (path, rest, waits, e) closed =
     rw (e, events_more s.events (at_path path o)) (body_node (events_text s.events) (outcome_text o) s.leaf.left s.leaf.entries closed)
 
@@ -178,7 +178,7 @@ pub record Grows (s t : Tree) (line : List ℕ) : Type 0 where
   pub limits_same : t.limits ≡ s.limits
   pub grown : IsGrown t
 
-settles_limits : (s t : Tree) (o : Outcome) → Settles s o t → t.limits ≡ s.limits
+settles_limits : (s t : Tree) (o : Outcome) → TakesOutcome s o t → t.limits ≡ s.limits
 settles_limits s t o (path, rest, waits, e) = ap (λ (x : Tree). x.limits) e
 
 grows_node : (s t : Tree) (line : List ℕ) → s.leaf.left ≡ 0 → s.pending ≢ [] → IsGrown s → StepsNode s line t → Grows s t line
@@ -251,7 +251,7 @@ leaf_closed s g = record {
   listed = g.listed;
 }
 
-last_text : (s t : Tree) (leaf : LeafView) (line : List ℕ) → TakesEntry s.leaf line leaf → leaf.left ≡ 0 → 0 < s.leaf.left → Settles (record s { leaf = no_leaf }) (Inside leaf.entries) t → tree_text t ≡ tree_text s ++ ended line
+last_text : (s t : Tree) (leaf : LeafView) (line : List ℕ) → TakesEntry s.leaf line leaf → leaf.left ≡ 0 → 0 < s.leaf.left → TakesOutcome (record s { leaf = no_leaf }) (Inside leaf.entries) t → tree_text t ≡ tree_text s ++ ended line
 last_text s t leaf line (w, n, p, follows, e) done some q =
     let said = ap ended (said_is (codes "w") (entry_numbers w (pos n)) line p.0).0 in
     let one : s.leaf.left ≡ 1 = omega (arith, ap (λ (l : LeafView). l.left) e, done, some) in

@@ -53,6 +53,6 @@ abbrev pub IsRefusal : List ℕ → FileErr → Type 0
 IsRefusal text error = IsRefused Steps Slips IsEnd start text error
 
 -- the text is that of no polygon, unless memory was wanting
-abbrev pub IsOutside : List ℕ → FileErr → Type 0
-IsOutside text (At line slip) = (vs : List Vertex) → SpellsPolygon text vs → ⊥
-IsOutside text NoMemory = ⊤
+abbrev pub IsNotSpelled : List ℕ → FileErr → Type 0
+IsNotSpelled text (At line slip) = (vs : List Vertex) → SpellsPolygon text vs → ⊥
+IsNotSpelled text NoMemory = ⊤

@@ -19,8 +19,8 @@ abbrev pub no_questions : Questions
 no_questions = record { ring = no_ring; queries = [] }
 
 -- the question is put at the end
-abbrev pub Asks : Questions → Query → Questions → Type 0
-Asks old query new = new ≡ record old { queries = old.queries ++ query ∷ [] }
+abbrev pub AddsQuery : Questions → Query → Questions → Type 0
+AddsQuery old query new = new ≡ record old { queries = old.queries ++ query ∷ [] }
 
 -- the line says the point, in its range
 abbrev pub SaysPlace : Place → List ℕ → Type 0
@@ -43,7 +43,7 @@ IsOrbitSlip line slip =
 
 -- the line asks for the answer at a point
 abbrev pub StepsPoint : Questions → List ℕ → Questions → Type 0
-StepsPoint old line new = (r : Place) × SaysPlace r line × Asks old (Point r) new
+StepsPoint old line new = (r : Place) × SaysPlace r line × AddsQuery old (Point r) new
 
 -- the line opens the ring of a polygon
 abbrev pub StepsRegion : Questions → List ℕ → Questions → Type 0
@@ -51,7 +51,7 @@ StepsRegion old line new = (ring : RingView) × Opens (codes "region") line ring
 
 -- the line asks how an orbit ends
 abbrev pub StepsOrbit : Questions → List ℕ → Questions → Type 0
-StepsOrbit old line new = (r : Place) × (z : V2) × (n : ℕ) × SaysOrbit r z n line × Asks old (Orbit r z n) new
+StepsOrbit old line new = (r : Place) × (z : V2) × (n : ℕ) × SaysOrbit r z n line × AddsQuery old (Orbit r z n) new
 
 -- a question, by its first token
 abbrev pub StepsQuestion : Questions → List ℕ → Questions → Type 0
@@ -78,7 +78,7 @@ SlipsAsked line slip back =
 abbrev pub StepsVertex : Questions → List ℕ → Questions → Type 0
 StepsVertex old line new =
     (ring : RingView) × TakesVertex old.ring line ring
-    × (((0 < ring.left) × (new ≡ record old { ring = ring })) ⊎ ((ring.left ≡ 0) × Asks (record old { ring = no_ring }) (Polygon (region_of ring.vertices)) new))
+    × (((0 < ring.left) × (new ≡ record old { ring = ring })) ⊎ ((ring.left ≡ 0) × AddsQuery (record old { ring = no_ring }) (Polygon (region_of ring.vertices)) new))
 
 -- a vertex where one is to come, and else a question
 abbrev pub TakesQuestion : Questions → List ℕ → Questions → Type 0

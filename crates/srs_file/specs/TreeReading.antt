@@ -37,8 +37,8 @@ abbrev pub at_path : List Side → Outcome → Entry
 at_path path o = record { path = path; outcome = o }
 
 -- the next cell has the outcome, and isn't cut
-abbrev pub Settles : Tree → Outcome → Tree → Type 0
-Settles old o new =
+abbrev pub TakesOutcome : Tree → Outcome → Tree → Type 0
+TakesOutcome old o new =
     (path : List Side) × (rest : List (List Side)) × (old.pending ≡ path ∷ rest) × (new ≡ record old { pending = rest; events = old.events ++ at_path path o ∷ [] })
 
 -- the next cell is cut, above the greatest depth; its parts wait then, Ge first
@@ -94,7 +94,7 @@ pub record Counts (W : ℕ) (n : ℤ) (entries : List ℤ) : Type 0 where
 -- the line is an outside leaf with its cycle
 abbrev pub StepsOut : Tree → List ℕ → Tree → Type 0
 StepsOut old line new =
-    (n : ℤ) × (cycle : List ℤ) × Says (codes "out") (n ∷ cycle) line × Counts old.limits.wits n cycle × IsCycle cycle × Settles old (Outside cycle) new
+    (n : ℤ) × (cycle : List ℤ) × Says (codes "out") (n ∷ cycle) line × Counts old.limits.wits n cycle × IsCycle cycle × TakesOutcome old (Outside cycle) new
 
 -- what is wrong with an outside leaf: its fields, else how many entries there are, else their ranges
 abbrev pub SlipsOut : Tree → List ℕ → Slip → ℕ → Type 0
@@ -105,7 +105,7 @@ SlipsOut old line slip back =
 
 -- the line is a left leaf
 abbrev pub StepsLeft : Tree → List ℕ → Tree → Type 0
-StepsLeft old line new = (cause : Cause) × (line ≡ left_line cause) × Settles old (Left cause) new
+StepsLeft old line new = (cause : Cause) × (line ≡ left_line cause) × TakesOutcome old (Left cause) new
 
 -- the line is that of no left leaf
 abbrev pub SlipsLeft : List ℕ → Slip → ℕ → Type 0
@@ -139,7 +139,7 @@ SlipsNode old line slip back =
 abbrev pub StepsEntry : Tree → List ℕ → Tree → Type 0
 StepsEntry old line new =
     (leaf : LeafView) × TakesEntry old.leaf line leaf
-    × (((0 < leaf.left) × (new ≡ record old { leaf = leaf })) ⊎ ((leaf.left ≡ 0) × Settles (record old { leaf = no_leaf }) (Inside leaf.entries) new))
+    × (((0 < leaf.left) × (new ≡ record old { leaf = leaf })) ⊎ ((leaf.left ≡ 0) × TakesOutcome (record old { leaf = no_leaf }) (Inside leaf.entries) new))
 
 -- a witness where one is to come, and else a node
 abbrev pub TakesLine : Tree → List ℕ → Tree → Type 0

@@ -40,7 +40,10 @@ impl AskReader {
     // Takes a line behind the certificate.
     fn question(&mut self, line: &[u8]) -> Result<(), LineErr>
         ensures ok { OnOk result (StepsAsking self.old line.now self.new) }
-        ensures err { IfErr result (IsSlip (λ slip back. (¬ (EndsHere self.old line.now)) × SlipsQuestion self.old.questions line.now slip back)) }
+        ensures err { IfErr result
+            (IsSlip
+            (λ slip back. (¬ (EndsHere self.old line.now)) ×
+            SlipsQuestion self.old.questions line.now slip back)) }
     {
         if !self.questions.wants_more() && line == b"end".as_slice() {
             self.ended = true;
@@ -87,12 +90,17 @@ pub fn read_ask(alloc: Global, text: &[u8]) -> Result<(Cert, Queries), FileErr>
 /// A text is a certificate with questions or has a first slip, one of the two and never both; it has one first slip, and spells one certificate
 /// and one list of questions; and it is read as these exactly where it spells them.
 pub fn one_ask_input()
-    ensures never_both { (text : List ℕ) (c : CertView) (queries : List Query) (line : ℕ) (slip : Slip) → SpellsAsk text c queries → FirstAskSlip text line slip → ⊥ }
-    ensures one_slip { (text : List ℕ) (m n : ℕ) (d e : Slip) → FirstAskSlip text m d → FirstAskSlip text n e → (m ≡ n) × (d ≡ e) }
+    ensures never_both { (text : List ℕ) (c : CertView) (queries : List Query) (line : ℕ)
+        (slip : Slip) → SpellsAsk text c queries → FirstAskSlip text line slip → ⊥ }
+    ensures one_slip { (text : List ℕ) (m n : ℕ) (d e : Slip) → FirstAskSlip text m d →
+        FirstAskSlip text n e → (m ≡ n) × (d ≡ e) }
     ensures either { (text : List ℕ) → IsAskOrSlips text }
-    ensures one_value { (text : List ℕ) (b c : CertView) (ps qs : List Query) → SpellsAsk text b ps → SpellsAsk text c qs → (b ≡ c) × (ps ≡ qs) }
-    ensures spelled { (text : List ℕ) (c : CertView) (queries : List Query) → ReadsAsAsk text c queries → SpellsAsk text c queries }
-    ensures read { (text : List ℕ) (c : CertView) (queries : List Query) → SpellsAsk text c queries → ReadsAsAsk text c queries }
+    ensures one_value { (text : List ℕ) (b c : CertView) (ps qs : List Query) →
+        SpellsAsk text b ps → SpellsAsk text c qs → (b ≡ c) × (ps ≡ qs) }
+    ensures spelled { (text : List ℕ) (c : CertView) (queries : List Query) →
+        ReadsAsAsk text c queries → SpellsAsk text c queries }
+    ensures read { (text : List ℕ) (c : CertView) (queries : List Query) →
+        SpellsAsk text c queries → ReadsAsAsk text c queries }
 {
     never_both::<AskReader>();
     one_slip::<AskReader>();

@@ -138,7 +138,8 @@ fn limits(line: &[u8]) -> Result<Limits, Slip>
 
 // The three numbers as limits.
 fn limits_of(depth: i64, cells: i64, wits: i64) -> Option<Limits>
-    ensures some { IfSome result (λ b. (depth ≡ pos b.depth) × (cells ≡ pos b.cells) × (wits ≡ pos b.wits) × IsBudget b) }
+    ensures some { IfSome result
+        (λ b. (depth ≡ pos b.depth) × (cells ≡ pos b.cells) × (wits ≡ pos b.wits) × IsBudget b) }
     ensures none { IfNone result (AreNoLimits depth cells wits) }
 {
     let depth = u32::try_from(depth).ok()?;
@@ -163,11 +164,15 @@ pub fn read_cert(alloc: Global, text: &[u8]) -> Result<Cert, FileErr>
 /// A text is that of a certificate or has a first slip, one of the two and never both; it has one first slip, and spells one certificate; and
 /// it is read as this certificate exactly where it spells it. So the one text of a certificate is read as that certificate.
 pub fn one_certificate()
-    ensures never_both { (text : List ℕ) (c : CertView) (line : ℕ) (slip : Slip) → SpellsCertificate text c → FirstCertSlip text line slip → ⊥ }
-    ensures one_slip { (text : List ℕ) (m n : ℕ) (d e : Slip) → FirstCertSlip text m d → FirstCertSlip text n e → (m ≡ n) × (d ≡ e) }
+    ensures never_both { (text : List ℕ) (c : CertView) (line : ℕ) (slip : Slip) →
+        SpellsCertificate text c → FirstCertSlip text line slip → ⊥ }
+    ensures one_slip { (text : List ℕ) (m n : ℕ) (d e : Slip) → FirstCertSlip text m d →
+        FirstCertSlip text n e → (m ≡ n) × (d ≡ e) }
     ensures either { (text : List ℕ) → IsCertOrSlips text }
-    ensures one_value { (text : List ℕ) (b c : CertView) → SpellsCertificate text b → SpellsCertificate text c → b ≡ c }
-    ensures spelled { (text : List ℕ) (c : CertView) → ReadsAsCert text c → SpellsCertificate text c }
+    ensures one_value { (text : List ℕ) (b c : CertView) → SpellsCertificate text b →
+        SpellsCertificate text c → b ≡ c }
+    ensures spelled { (text : List ℕ) (c : CertView) → ReadsAsCert text c →
+        SpellsCertificate text c }
     ensures read { (text : List ℕ) (c : CertView) → SpellsCertificate text c → ReadsAsCert text c }
     ensures back { (c : CertView) → IsCertificate c → ReadsAsCert (cert_text c) c }
 {

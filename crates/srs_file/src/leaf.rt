@@ -99,7 +99,10 @@ impl Leaf {
         requires more { 0 < self.old.left }
         requires entry { IsEntry pair rank }
         requires follows { Follows self.old.entries pair }
-        ensures ok { OnOk result ((n : ℕ) × (rank ≡ pos n) × (self.new ≡ record { left = self.old.left - 1; entries = self.old.entries ++ (pair, n) ∷ [] })) }
+        ensures ok { OnOk result
+            ((n : ℕ) × (rank ≡ pos n) ×
+            (self.new ≡
+            record { left = self.old.left - 1; entries = self.old.entries ++ (pair, n) ∷ [] })) }
         ensures err { IfErr result (IsSlip (λ slip back. ⊥)) }
     {
         let Ok(()) = self.pairs.push(pair) else {

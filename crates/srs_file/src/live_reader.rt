@@ -30,10 +30,13 @@ pub fn read_live(alloc: Global, text: &[u8]) -> Result<(Vertices, Cell, Script),
 /// A text is an input of `live` or has a first slip, one of the two and never both; it has one first slip, and spells one
 /// list of vertices and one list of sessions.
 pub fn one_live_input()
-    ensures never_both { (text : List ℕ) (vs : List Vertex) (script : List (List Segment)) (line : ℕ) (slip : Slip) → SpellsLive text vs script → FirstLiveSlip text line slip → ⊥ }
-    ensures one_slip { (text : List ℕ) (m n : ℕ) (d e : Slip) → FirstLiveSlip text m d → FirstLiveSlip text n e → (m ≡ n) × (d ≡ e) }
+    ensures never_both { (text : List ℕ) (vs : List Vertex) (script : List (List Segment))
+        (line : ℕ) (slip : Slip) → SpellsLive text vs script → FirstLiveSlip text line slip → ⊥ }
+    ensures one_slip { (text : List ℕ) (m n : ℕ) (d e : Slip) → FirstLiveSlip text m d →
+        FirstLiveSlip text n e → (m ≡ n) × (d ≡ e) }
     ensures either { (text : List ℕ) → IsLiveOrSlips text }
-    ensures one_value { (text : List ℕ) (vs ws : List Vertex) (a b : List (List Segment)) → SpellsLive text vs a → SpellsLive text ws b → (vs ≡ ws) × (a ≡ b) }
+    ensures one_value { (text : List ℕ) (vs ws : List Vertex) (a b : List (List Segment)) →
+        SpellsLive text vs a → SpellsLive text ws b → (vs ≡ ws) × (a ≡ b) }
 {
     one_polygon();
 }

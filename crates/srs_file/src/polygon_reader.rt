@@ -6,7 +6,7 @@ ghost use Rattle.srs_plane.specs.Polygons.{region_of};
 ghost use Rattle.srs_line.specs.declared.slip.Slip.{Slip};
 ghost use Rattle.srs_line.specs.declared.slip.Slip.TheVariants.{Word};
 ghost use Rattle.srs_file.specs.Grammar.{SpellsPolygon};
-ghost use Rattle.srs_file.specs.PolygonReading.{start, ReadsAs, FirstSlip, IsPolygonOrSlips, IsRefusal, IsOutside};
+ghost use Rattle.srs_file.specs.PolygonReading.{start, ReadsAs, FirstSlip, IsPolygonOrSlips, IsRefusal, IsNotSpelled};
 
 use crate::Outline;
 use srs_cell::Cell;
@@ -76,7 +76,7 @@ pub fn read_polygon(alloc: Global, text: &[u8]) -> Result<(Vertices, Cell), File
     requires { length text.now + 1 < 2 ^ 32 }
     ensures accepted { IfOk result (λ r. SpellsPolygon text.now r.0 × (r.1 ≡ region_of r.0)) }
     ensures refused { IfErr result (IsRefusal text.now) }
-    ensures outside { IfErr result (IsOutside text.now) }
+    ensures outside { IfErr result (IsNotSpelled text.now) }
 {
     let mut reader = PolygonReader::new(alloc);
     read_lines(&mut reader, text)?;
@@ -100,10 +100,13 @@ pub(crate) fn inhabited(alloc: Global, region: Region) -> Result<Cell, NoMemory>
 /// A text is that of a polygon or has a first slip, one of the two and never both; it has one first slip, and spells one list of vertices;
 /// and it is read as these vertices exactly where it spells them.
 pub fn one_polygon()
-    ensures never_both { (text : List ℕ) (vs : List Vertex) (line : ℕ) (slip : Slip) → SpellsPolygon text vs → FirstSlip text line slip → ⊥ }
-    ensures one_slip { (text : List ℕ) (m n : ℕ) (d e : Slip) → FirstSlip text m d → FirstSlip text n e → (m ≡ n) × (d ≡ e) }
+    ensures never_both { (text : List ℕ) (vs : List Vertex) (line : ℕ) (slip : Slip) →
+        SpellsPolygon text vs → FirstSlip text line slip → ⊥ }
+    ensures one_slip { (text : List ℕ) (m n : ℕ) (d e : Slip) → FirstSlip text m d →
+        FirstSlip text n e → (m ≡ n) × (d ≡ e) }
     ensures either { (text : List ℕ) → IsPolygonOrSlips text }
-    ensures one_list { (text : List ℕ) (vs ws : List Vertex) → SpellsPolygon text vs → SpellsPolygon text ws → vs ≡ ws }
+    ensures one_list { (text : List ℕ) (vs ws : List Vertex) → SpellsPolygon text vs →
+        SpellsPolygon text ws → vs ≡ ws }
     ensures spelled { (text : List ℕ) (vs : List Vertex) → ReadsAs text vs → SpellsPolygon text vs }
     ensures read { (text : List ℕ) (vs : List Vertex) → SpellsPolygon text vs → ReadsAs text vs }
 {

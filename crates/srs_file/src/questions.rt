@@ -8,7 +8,7 @@ ghost use Rattle.srs_line.specs.Refusal.{IsSlip};
 ghost use Rattle.srs_file.specs.Ring.{IsFull, no_ring, IsOpenSlip, SlipsVertex};
 ghost use Rattle.srs_file.specs.Questions.{orbit_numbers};
 ghost use Rattle.srs_tree.specs.Questions.{IsOrbitAsked, IsAskable};
-ghost use Rattle.srs_file.specs.QuestionReading.{no_questions, Asks, SaysPlace, IsPlaceSlip, SaysOrbit, IsOrbitSlip, StepsPoint, StepsRegion, StepsOrbit, StepsVertex, TakesQuestion, SlipsQuestion};
+ghost use Rattle.srs_file.specs.QuestionReading.{no_questions, AddsQuery, SaysPlace, IsPlaceSlip, SaysOrbit, IsOrbitSlip, StepsPoint, StepsRegion, StepsOrbit, StepsVertex, TakesQuestion, SlipsQuestion};
 
 use crate::Ring;
 use crate::polygon_reader::inhabited;
@@ -78,7 +78,9 @@ impl Questions {
     // The ring is whole: its polygon is asked about.
     fn close(&mut self) -> Result<(), LineErr>
         requires { IsFull self.old.ring }
-        ensures ok { OnOk result (Asks (record self.old { ring = no_ring }) (Polygon (region_of self.old.ring.vertices)) self.new) }
+        ensures ok { OnOk result
+            (AddsQuery (record self.old { ring = no_ring })
+            (Polygon (region_of self.old.ring.vertices)) self.new) }
         ensures err { IfErr result (IsSlip (λ slip back. ⊥)) }
     {
         let Some(region) = self.ring.close() else {
@@ -97,7 +99,8 @@ impl Questions {
 
     fn region(&mut self, line: &[u8]) -> Result<(), LineErr>
         ensures ok { OnOk result (StepsRegion self.old line.now self.new) }
-        ensures err { IfErr result (IsSlip (λ slip back. IsOpenSlip (codes "region") line.now slip × (back ≡ 0))) }
+        ensures err { IfErr result
+            (IsSlip (λ slip back. IsOpenSlip (codes "region") line.now slip × (back ≡ 0))) }
     {
         Ok(self.ring.open(b"region", line)?)
     }
@@ -113,7 +116,7 @@ impl Questions {
     // Puts the question at the end.
     fn ask(&mut self, query: Query) -> Result<(), LineErr>
         requires { IsAskable query }
-        ensures ok { OnOk result (Asks self.old query self.new) }
+        ensures ok { OnOk result (AddsQuery self.old query self.new) }
         ensures err { IfErr result (IsSlip (λ slip back. ⊥)) }
     {
         // Each question so far is askable.
@@ -151,8 +154,13 @@ fn orbit(line: &[u8]) -> Result<(Pt, V2, u32), Slip>
 
 // The six numbers as an orbit that may be asked about.
 fn orbit_of(said: &(i64, i64, i64, i64, i64, i64)) -> Option<(Pt, V2, u32)>
-    ensures some { IfSome result (λ o. IsOrbitAsked o.0 o.1 o.2 × (said.now.0 ∷ said.now.1 ∷ said.now.2 ∷ said.now.3 ∷ said.now.4 ∷ said.now.5 ∷ [] ≡ orbit_numbers o.0 o.1 (pos o.2))) }
-    ensures none { IfNone result ((r : Point) (z : V2) (n : ℕ) → IsOrbitAsked r z n → said.now.0 ∷ said.now.1 ∷ said.now.2 ∷ said.now.3 ∷ said.now.4 ∷ said.now.5 ∷ [] ≢ orbit_numbers r z (pos n)) }
+    ensures some { IfSome result
+        (λ o. IsOrbitAsked o.0 o.1 o.2 ×
+        (said.now.0 ∷ said.now.1 ∷ said.now.2 ∷ said.now.3 ∷ said.now.4 ∷ said.now.5 ∷ [] ≡
+        orbit_numbers o.0 o.1 (pos o.2))) }
+    ensures none { IfNone result ((r : Point) (z : V2) (n : ℕ) → IsOrbitAsked r z n →
+        said.now.0 ∷ said.now.1 ∷ said.now.2 ∷ said.now.3 ∷ said.now.4 ∷ said.now.5 ∷ [] ≢
+        orbit_numbers r z (pos n)) }
 {
     let (p, q, d, a, b, steps) = *said;
     let r = Pt::new(p, q, d)?;

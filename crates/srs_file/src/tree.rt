@@ -4,7 +4,7 @@ ghost use Rattle.srs_path.specs.declared.limits.TheConstants.{MOST_DEPTH};
 ghost use Rattle.srs_path.specs.declared.paths.Side.TheVariants.{Ge as AtGe, Lt as AtLt};
 ghost use Rattle.srs_path.specs.declared.outcomes.Cause.{Cause};
 ghost use Rattle.srs_line.specs.Refusal.{IsSlip};
-ghost use Rattle.srs_file.specs.TreeReading.{left_line, no_tree, only_root, Settles, Divides, SlipsDivide, HasRoom, CutsBy, SlipsCutBy, StepsCut, SlipsCut, StepsIn, SlipsIn, Counts, StepsOut, SlipsOut, StepsLeft, SlipsLeft, StepsNode, SlipsNode, StepsEntry, TakesLine, SlipsLine};
+ghost use Rattle.srs_file.specs.TreeReading.{left_line, no_tree, only_root, TakesOutcome, Divides, SlipsDivide, HasRoom, CutsBy, SlipsCutBy, StepsCut, SlipsCut, StepsIn, SlipsIn, Counts, StepsOut, SlipsOut, StepsLeft, SlipsLeft, StepsNode, SlipsNode, StepsEntry, TakesLine, SlipsLine};
 ghost use Rattle.srs_file.specs.Leaf.{SlipsEntry};
 
 use crate::{Events, Leaf, PathStack};
@@ -207,7 +207,7 @@ impl Tree {
     // The next cell has the outcome, and isn't cut.
     fn settle(&mut self, outcome: Outcome) -> Result<(), LineErr>
         requires { self.old.pending ≢ [] }
-        ensures ok { OnOk result (Settles self.old outcome self.new) }
+        ensures ok { OnOk result (TakesOutcome self.old outcome self.new) }
         ensures err { IfErr result (IsSlip (λ slip back. ⊥)) }
     {
         match self.pending.pop() {

@@ -2,7 +2,7 @@
 use Rattle.std.proofs.Common.{◌≡◌, ◌≢◌, ℕ, suc, List, [], ◌∷◌, ◌++◌, length, refl, sym, ap, ◌∙◌, inl, inr, append_assoc}
 use Rattle.std.proofs.lemmas.List.Elements.{All-head, All-tail}
 use Rattle.srs_text.specs.Line.{HasNoLf, IsLineOf}
-use Rattle.srs_line.specs.Machine.{joined, Runs, Reaches, IsWrong, SlipsAt, IsRead, IsExact}
+use Rattle.srs_line.specs.Machine.{lines_text, Runs, Reaches, IsWrong, SlipsAt, IsRead, IsExact}
 use Rattle.srs_line.specs.declared.slip.Slip.{Slip}
 
 -- The first line is determined.
@@ -23,7 +23,7 @@ lf_stands (c ∷ line) more h = lf_stands line more (All-tail (λ d. d ≢ 10) c
 pub no_line : (rest line more : List ℕ) → HasNoLf rest → IsLineOf rest line more → ⊥
 no_line rest line more h l = lf_stands line more (rw l.whole at h)
 
-opened : (x : List ℕ) (xs : List (List ℕ)) (rest : List ℕ) → joined (x ∷ xs) ++ rest ≡ x ++ 10 ∷ (joined xs ++ rest)
+opened : (x : List ℕ) (xs : List (List ℕ)) (rest : List ℕ) → lines_text (x ∷ xs) ++ rest ≡ x ++ 10 ∷ (lines_text xs ++ rest)
 opened x xs rest = simp append_assoc
 
 module _ {S : Type 0} (Steps : S → List ℕ → S → Type 0)
@@ -32,14 +32,14 @@ module _ {S : Type 0} (Steps : S → List ℕ → S → Type 0)
   abbrev pub Stuck : S → List ℕ → Type 0
   Stuck s rest = (line more : List ℕ) (t : S) → IsLineOf rest line more → Steps s line t → ⊥
 
-  walk : (xs ys : List (List ℕ)) (start s t : S) (a b : List ℕ) → joined xs ++ a ≡ joined ys ++ b → Runs Steps start xs s → Runs Steps start ys t → Stuck s a → Stuck t b → (length xs ≡ length ys) × (s ≡ t) × (a ≡ b)
+  walk : (xs ys : List (List ℕ)) (start s t : S) (a b : List ℕ) → lines_text xs ++ a ≡ lines_text ys ++ b → Runs Steps start xs s → Runs Steps start ys t → Stuck s a → Stuck t b → (length xs ≡ length ys) × (s ≡ t) × (a ≡ b)
   walk [] [] start s t a b e r q f g = (refl, sym r ∙ q, e)
   walk [] (y ∷ ys) start s t a b e r q f g =
-      absurd (f y (joined ys ++ b) q.0 (record { whole = e ∙ opened y ys b; plain = q.2 }) (rw (← r) q.1))
+      absurd (f y (lines_text ys ++ b) q.0 (record { whole = e ∙ opened y ys b; plain = q.2 }) (rw (← r) q.1))
   walk (x ∷ xs) [] start s t a b e r q f g =
-      absurd (g x (joined xs ++ a) r.0 (record { whole = sym e ∙ opened x xs a; plain = r.2 }) (rw (← q) r.1))
+      absurd (g x (lines_text xs ++ a) r.0 (record { whole = sym e ∙ opened x xs a; plain = r.2 }) (rw (← q) r.1))
   walk (x ∷ xs) (y ∷ ys) start s t a b e r q f g =
-      let one = line_once x y (joined xs ++ a) (joined ys ++ b) (sym (opened x xs a) ∙ e ∙ opened y ys b) r.2 q.2 in
+      let one = line_once x y (lines_text xs ++ a) (lines_text ys ++ b) (sym (opened x xs a) ∙ e ∙ opened y ys b) r.2 q.2 in
       let same : r.0 ≡ q.0 = det start r.0 q.0 x r.1 (rw one.0 q.1) in
       let w = walk xs ys q.0 s t a b one.1 (rw (← same) r.3) q.3 f g in
       (ap suc w.0, w.1, w.2)

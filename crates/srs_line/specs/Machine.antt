@@ -6,8 +6,8 @@ use Rattle.srs_line.specs.declared.slip.Slip.{Slip}
 use Rattle.srs_line.specs.declared.slip.Slip.TheVariants.{Missing, Tail}
 
 -- the lines, each with its LF
-abbrev pub joined : List (List ℕ) → List ℕ
-joined lines = flat_map (λ line. line ++ 10 ∷ []) lines
+abbrev pub lines_text : List (List ℕ) → List ℕ
+lines_text lines = flat_map (λ line. line ++ 10 ∷ []) lines
 
 -- the lines lead from one state to another, each being good where it stands
 abbrev pub Runs : {S : Type 0} → (S → List ℕ → S → Type 0) → S → List (List ℕ) → S → Type 0
@@ -18,7 +18,7 @@ Runs {S} Steps s (line ∷ lines) t = (u : S) × Steps s line u × HasNoLf line 
 pub record Reaches {S : Type 0} (Steps : S → List ℕ → S → Type 0) (start : S) (text : List ℕ) (count : ℕ) (state : S) (rest : List ℕ) : Type 0 where
   pub lines : List (List ℕ)
   pub count_is : count ≡ length lines
-  pub whole : text ≡ joined lines ++ rest
+  pub whole : text ≡ lines_text lines ++ rest
   pub good : Runs Steps start lines state
 
 -- The text is good: all of it is good lines, which lead to an end.

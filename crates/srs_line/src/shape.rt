@@ -96,7 +96,8 @@ pub fn three(line: &[u8], word: &[u8]) -> Result<(i64, i64, i64), Slip>
 
 /// Reads the line as the word and six numbers. It takes no memory.
 pub fn six(line: &[u8], word: &[u8]) -> Result<(i64, i64, i64, i64, i64, i64), Slip>
-    ensures ok { IfOk result (λ r. Says word.now (r.0 ∷ r.1 ∷ r.2 ∷ r.3 ∷ r.4 ∷ r.5 ∷ []) line.now) }
+    ensures ok { IfOk result
+        (λ r. Says word.now (r.0 ∷ r.1 ∷ r.2 ∷ r.3 ∷ r.4 ∷ r.5 ∷ []) line.now) }
     ensures err { IfErr result (IsFieldSlip word.now 6 line.now) }
 {
     let mut into = [0i64; 6];
@@ -119,7 +120,10 @@ pub fn count_of(line: &[u8], word: &[u8], low: u32, high: u32, outside: Slip) ->
 
 /// A word and numbers have one text: what says them is that text, and that text says them.
 pub fn one_line()
-    ensures read { (word : List ℕ) (zs : List ℤ) (line : List ℕ) → Says word zs line → (line ≡ line_of word zs) × All (FitsSigned w64) zs }
-    ensures written { (word : List ℕ) (zs : List ℤ) → All (λ c. 32 < c) word → All (FitsSigned w64) zs → Says word zs (line_of word zs) }
-    ensures plain { (word : List ℕ) (zs : List ℤ) → All (λ c. 32 < c) word → All (FitsSigned w64) zs → HasNoLf (line_of word zs) }
+    ensures read { (word : List ℕ) (zs : List ℤ) (line : List ℕ) → Says word zs line →
+        (line ≡ line_of word zs) × All (FitsSigned w64) zs }
+    ensures written { (word : List ℕ) (zs : List ℤ) → All (λ c. 32 < c) word →
+        All (FitsSigned w64) zs → Says word zs (line_of word zs) }
+    ensures plain { (word : List ℕ) (zs : List ℤ) → All (λ c. 32 < c) word →
+        All (FitsSigned w64) zs → HasNoLf (line_of word zs) }
 {}

@@ -26,7 +26,8 @@ pub fn put_cert(out: &mut Bytes, c: &Cert) -> Result<(), NoMemory>
 // The outcomes of the events.
 fn put_nodes(out: &mut Bytes, events: &Journal) -> Result<(), NoMemory>
     ensures ok { OnOk result (out.new ≡ out.old ++ flat_map outcome_text (outcomes_of events.now)) }
-    ensures err { OnErr result (StopsIn out.old (flat_map outcome_text (outcomes_of events.now)) out.new) }
+    ensures err { OnErr result
+        (StopsIn out.old (flat_map outcome_text (outcomes_of events.now)) out.new) }
 {
     for i in 0..events.len() {
         put_outcome(out, &events.get(i).outcome)?;

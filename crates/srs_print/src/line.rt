@@ -38,8 +38,10 @@ pub fn put_words(out: &mut Bytes, word: &[u8], numbers: &[i64]) -> Result<(), No
 }
 
 fn put_fields(out: &mut Bytes, numbers: &[i64]) -> Result<(), NoMemory>
-    ensures ok { OnOk result (out.new ≡ out.old ++ flat_map (λ z. 32 ∷ signed_decimal z) numbers.now) }
-    ensures err { OnErr result (StopsIn out.old (flat_map (λ z. 32 ∷ signed_decimal z) numbers.now) out.new) }
+    ensures ok { OnOk result
+        (out.new ≡ out.old ++ flat_map (λ z. 32 ∷ signed_decimal z) numbers.now) }
+    ensures err { OnErr result
+        (StopsIn out.old (flat_map (λ z. 32 ∷ signed_decimal z) numbers.now) out.new) }
 {
     for z in numbers {
         put_signed(out, *z)?;

@@ -18,8 +18,10 @@ use srs_tree::{Journal, Run, Transcript, Transcripts};
 /// Appends the text of the run: its journal, what each session was told, and the certificate. An `Err` is want of memory,
 /// and leaves a front of the text behind what was there.
 pub fn put_live(out: &mut Bytes, run: &Run, c: &Cert) -> Result<(), NoMemory>
-    ensures ok { OnOk result (out.new ≡ out.old ++ live_text run.now.journal run.now.transcripts c.now) }
-    ensures err { OnErr result (StopsIn out.old (live_text run.now.journal run.now.transcripts c.now) out.new) }
+    ensures ok { OnOk result
+        (out.new ≡ out.old ++ live_text run.now.journal run.now.transcripts c.now) }
+    ensures err { OnErr result
+        (StopsIn out.old (live_text run.now.journal run.now.transcripts c.now) out.new) }
 {
     put_told(out, &run.journal, &run.transcripts)?;
     put_cert(out, c)
@@ -27,8 +29,15 @@ pub fn put_live(out: &mut Bytes, run: &Run, c: &Cert) -> Result<(), NoMemory>
 
 // All that stands before the certificate.
 fn put_told(out: &mut Bytes, journal: &Journal, told: &Transcripts) -> Result<(), NoMemory>
-    ensures ok { OnOk result (out.new ≡ out.old ++ (count_text (codes "live") 1 ++ journal_text journal.now ++ sessions_text told.now ++ ended (codes "end"))) }
-    ensures err { OnErr result (StopsIn out.old (count_text (codes "live") 1 ++ journal_text journal.now ++ sessions_text told.now ++ ended (codes "end")) out.new) }
+    ensures ok { OnOk result
+        (out.new ≡
+        out.old ++
+        (count_text (codes "live") 1 ++ journal_text journal.now ++ sessions_text told.now ++ ended
+        (codes "end"))) }
+    ensures err { OnErr result
+        (StopsIn out.old
+        (count_text (codes "live") 1 ++ journal_text journal.now ++ sessions_text told.now ++ ended
+        (codes "end")) out.new) }
 {
     put_count(out, b"live", 1)?;
     put_journal(out, journal)?;

@@ -61,8 +61,10 @@ fn put_outside(out: &mut Bytes, cycle: &Cycle) -> Result<(), NoMemory>
 
 // The line of the cycle, with no LF.
 pub(crate) fn put_cycle(out: &mut Bytes, cycle: &Cycle) -> Result<(), NoMemory>
-    ensures ok { OnOk result (out.new ≡ out.old ++ line_of (codes "out") (pos (length cycle.now) ∷ cycle.now)) }
-    ensures err { OnErr result (StopsIn out.old (line_of (codes "out") (pos (length cycle.now) ∷ cycle.now)) out.new) }
+    ensures ok { OnOk result
+        (out.new ≡ out.old ++ line_of (codes "out") (pos (length cycle.now) ∷ cycle.now)) }
+    ensures err { OnErr result
+        (StopsIn out.old (line_of (codes "out") (pos (length cycle.now) ∷ cycle.now)) out.new) }
 {
     out.extend(b"out")?;
     put_field(out, cycle.len() as i128)?;
@@ -70,8 +72,10 @@ pub(crate) fn put_cycle(out: &mut Bytes, cycle: &Cycle) -> Result<(), NoMemory>
 }
 
 fn put_entries(out: &mut Bytes, cycle: &Cycle) -> Result<(), NoMemory>
-    ensures ok { OnOk result (out.new ≡ out.old ++ flat_map (λ z. 32 ∷ signed_decimal z) cycle.now) }
-    ensures err { OnErr result (StopsIn out.old (flat_map (λ z. 32 ∷ signed_decimal z) cycle.now) out.new) }
+    ensures ok { OnOk result
+        (out.new ≡ out.old ++ flat_map (λ z. 32 ∷ signed_decimal z) cycle.now) }
+    ensures err { OnErr result
+        (StopsIn out.old (flat_map (λ z. 32 ∷ signed_decimal z) cycle.now) out.new) }
 {
     for i in 0..cycle.len() {
         put_signed(out, cycle.entry(i))?;

@@ -50,7 +50,8 @@ fn drawn<L: Ledger>(
     requires name { blank.name ≡ L.name }
     requires parts { blank.parts ≡ L.parts }
     requires some { 0 < blank.parts }
-    ensures { IfOk result (λ text. IsText v.now.region (tree_of v.now) grid.now grid.now.height text) }
+    ensures { IfOk result
+        (λ text. IsText v.now.region (tree_of v.now) grid.now grid.now.height text) }
 {
     let mut steps = Steps::<L>::new(blank);
     let mut text = Bytes::new(alloc);

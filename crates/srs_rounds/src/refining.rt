@@ -53,7 +53,9 @@ fn refine_round(
 ) -> Result<Vec<Pending>, NoMemory>
     requires start { StartsRound tree.old.region limits.now number cells tree.old waiting.now }
     requires shallow { number ≤ limits.now.depth }
-    ensures next { IfOk result (λ next. StartsRound tree.old.region limits.now (number + 1) (cells + vec_len next) tree.new next.items) }
+    ensures next { IfOk result
+        (λ next. StartsRound tree.old.region limits.now (number + 1)
+        (cells + vec_len next) tree.new next.items) }
 {
     let wits = limits.wits();
     let last = limits.last(number, cells, waiting.len() as u64);
@@ -77,9 +79,11 @@ fn refine_cell(
     requires some { 1 ≤ wits }
     requires bounded { wits ≤ 16384 }
     requires waits { IsOpenIn (tree_of tree.old) pending.now.path }
-    requires region { pending.now.region ≡ region_at tree.old.region (tree_of tree.old) pending.now.path }
+    requires region { pending.now.region ≡
+        region_at tree.old.region (tree_of tree.old) pending.now.path }
     requires short { last ≡ None → length pending.now.path < 48 }
-    ensures { OnOk result (GetsOutcome last wits tree.old tree.new pending.now next.old.items next.new.items) }
+    ensures { OnOk result
+        (GetsOutcome last wits tree.old tree.new pending.now next.old.items next.new.items) }
 {
     let finding = refiner.refine(alloc, &pending.cell, last, wits)?;
     if let Some((ge, lt)) = tree.add(alloc, pending.place, pending.path, finding)? {

@@ -144,7 +144,8 @@ impl MemSink {
     /// Room for `room` bytes, taken here: the writes take no memory. Those whose numbers are in `fail` fail, the
     /// first being 0.
     pub fn new(alloc: Global, room: u64, fail: Nums) -> Result<MemSink, NoMemory>
-        ensures { IfOk result (λ sink. sink ≡ record { got = []; room = room; fail = fail; next = 0; failed = 0 }) }
+        ensures { IfOk result
+            (λ sink. sink ≡ record { got = []; room = room; fail = fail; next = 0; failed = 0 }) }
     {
         let room = room as usize;
         match Vec::with_capacity(alloc, room) {
@@ -177,8 +178,10 @@ impl Sink for MemSink {
         ensures count { IfOk result (IsSomeOf piece.now) }
         ensures bytes { WriteAppends (Some self.old.got) (Some self.new.got) result piece.now }
         ensures cause { HasCause self.old.failed self.new.failed result }
-        ensures fails { IsErr result ↔ (Contains self.old.fail (pos self.old.next) ⊎ (self.old.room ≤ length self.old.got)) }
-        ensures takes { IfOk result (λ n. n ≡ min (length piece.now) (self.old.room - length self.old.got)) }
+        ensures fails { IsErr result ↔
+            (Contains self.old.fail (pos self.old.next) ⊎ (self.old.room ≤ length self.old.got)) }
+        ensures takes { IfOk result
+            (λ n. n ≡ min (length piece.now) (self.old.room - length self.old.got)) }
         ensures next { self.new.next ≡ next_call self.old.next }
         ensures failed { self.new.failed ≡ failures_after result self.old.failed }
         ensures list { self.new.fail ≡ self.old.fail }

@@ -64,6 +64,7 @@ pub fn put_number(out: &mut Bytes, n: i128) -> Result<(), NoMemory>
 
 /// Each number has one spelling, which is what is written.
 pub fn one_spelling()
-    ensures written { (token : List ℕ) (z : ℤ) → FitsSigned w64 z → Spells token z ↔ (token ≡ signed_decimal z) }
+    ensures written { (token : List ℕ) (z : ℤ) → FitsSigned w64 z → Spells token z ↔
+        (token ≡ signed_decimal z) }
     ensures once { (token : List ℕ) (y z : ℤ) → IsNumber token y → IsNumber token z → y ≡ z }
 {}

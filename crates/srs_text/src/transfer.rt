@@ -31,10 +31,14 @@ pub fn read_all<S: Source>(alloc: Global, source: &mut S, limit: u64) -> Result<
     ensures taken { IfOk result (λ bytes. Consumes (S.left source.old) (S.left source.new) bytes) }
     ensures end { OnOk result (IsAtEnd (S.left source.new)) }
     ensures short { IfOk result (λ bytes. length bytes ≤ limit) }
-    ensures long { IsErrOf result ReadErr.TooLong → TookJust (S.left source.old) (S.left source.new) (limit + 1) }
-    ensures fault { IsErrOf result ReadErr.Fault → Rose (S.faults source.old) (S.faults source.new) }
-    ensures cut { IsErrOf result ReadErr.Fault → TookUpTo (S.left source.old) (S.left source.new) limit }
-    ensures want { IsErrOf result ReadErr.NoMemory → TookUpTo (S.left source.old) (S.left source.new) (limit + 1) }
+    ensures long { IsErrOf result ReadErr.TooLong →
+        TookJust (S.left source.old) (S.left source.new) (limit + 1) }
+    ensures fault { IsErrOf result ReadErr.Fault →
+        Rose (S.faults source.old) (S.faults source.new) }
+    ensures cut { IsErrOf result ReadErr.Fault →
+        TookUpTo (S.left source.old) (S.left source.new) limit }
+    ensures want { IsErrOf result ReadErr.NoMemory →
+        TookUpTo (S.left source.old) (S.left source.new) (limit + 1) }
     ensures later { S.faults source.old ≤ S.faults source.new }
 {
     let mut chunk = [0u8; CHUNK as usize];

@@ -7,7 +7,7 @@ use Rattle.srs_line.specs.Fields.{AreNumbers}
 use Rattle.srs_path.specs.Views.{Budget}
 use Rattle.srs_tool.specs.declared.commands.Command.{Command}
 use Rattle.srs_tool.specs.declared.commands.Command.TheVariants.{Certify, Live, Check, Map, Ask}
-use Rattle.srs_tool.specs.Words.{name_of, numbers_of, Asks, AsksPlain}
+use Rattle.srs_tool.specs.Words.{name_of, numbers_of, SpellsCommand, AsksPlain}
 
 same_numbers : (ts : List (List ℕ)) (ys zs : List ℤ) → AreNumbers ts ys → AreNumbers ts zs → ys ≡ zs
 same_numbers [] [] [] h k = refl
@@ -45,7 +45,7 @@ named_is Check = refl
 named_is (Map columns rows) = refl
 named_is Ask = refl
 
-pub one_command : (words : List (List ℕ)) (c d : Command) → Asks words c → Asks words d → c ≡ d
+pub one_command : (words : List (List ℕ)) (c d : Command) → SpellsCommand words c → SpellsCommand words d → c ≡ d
 one_command [] c d h k = absurd h.0
 one_command (first ∷ others) c d h k =
     let names : sum (name_of c) ≡ sum (name_of d) = cc (h.0.0, k.0.0) in
@@ -56,7 +56,7 @@ pub one_plain_command : (words : List (List ℕ)) (c d : Command) → AsksPlain 
 one_plain_command words c d h k = one_command words c d h.0 k.0
 
 -- where words don't ask for `live`, what they ask for starts no thread
-pub plain_asked : (words : List (List ℕ)) → ((b : Budget) (n : ℕ) → Asks words (Live b n) → ⊥) → (c : Command) → Asks words c → AsksPlain words c
+pub plain_asked : (words : List (List ℕ)) → ((b : Budget) (n : ℕ) → SpellsCommand words (Live b n) → ⊥) → (c : Command) → SpellsCommand words c → AsksPlain words c
 plain_asked words none (Certify limits) asked = (asked, tt)
 plain_asked words none (Live limits workers) asked = absurd (none limits workers asked)
 plain_asked words none Check asked = (asked, tt)

@@ -9,9 +9,9 @@ use Rattle.srs_tool.specs.declared.commands.Input.{Input}
 use Rattle.srs_tool.specs.declared.commands.Input.TheVariants.{Polygon, Sessions, Certificate, Questions}
 use Rattle.srs_tool.specs.declared.status.Status.{Status}
 use Rattle.srs_tool.specs.declared.status.Status.TheVariants.{Done, Bad, Usage, NoMemory, ReadFault, WriteFault, Refused, TooLong}
-use Rattle.srs_tool.specs.Inputs.{input_of, longest, IsInput, HasCertificate, IsChecked}
+use Rattle.srs_tool.specs.Inputs.{input_of, longest, IsInput, HasCertificate, BringsCertificate}
 use Rattle.srs_tool.specs.Output.{EndsWell}
-use Rattle.srs_tool.specs.Ends.{Answers, IsOverlong, EndsBy, Ends, IsGoodRun}
+use Rattle.srs_tool.specs.Ends.{EndsAs, IsOverlong, EndsBy, Ends, IsGoodRun}
 
 -- what was read to the end is what was there
 same_input : (left left_after : Option (List ℕ)) (input bytes : List ℕ) → left ≡ Some input → Consumes left left_after bytes → IsAtEnd left_after → bytes ≡ input
@@ -28,7 +28,7 @@ took_within (Some xs) (Some ys) input bytes held taken =
     let e : length input ≡ length bytes + length ys = ap length (sym (same_Some xs input held) ∙ taken) ∙ length-append bytes ys in omega (arith, e)
 
 -- an input with a certificate is one that is checked
-has_checked : (input : Input) (text : List ℕ) (c : CertView) → HasCertificate input text c → IsChecked input
+has_checked : (input : Input) (text : List ℕ) (c : CertView) → HasCertificate input text c → BringsCertificate input
 has_checked Polygon text c has = absurd has
 has_checked Sessions text c has = absurd has
 has_checked Certificate text c has = tt
@@ -36,7 +36,7 @@ has_checked Questions text c has = tt
 
 module _ (c : Command) (left left_after got got_after : Option (List ℕ)) (text : List ℕ) (held : left ≡ Some text)
     (short : length text ≤ longest (input_of c)) (good : IsInput (input_of c) text) where
-  refusal_fails : Answers c Refused left left_after got got_after → ⊥
+  refusal_fails : EndsAs c Refused left left_after got got_after → ⊥
   refusal_fails a = a.owed.no_input
       (subst (IsInput (input_of c)) (sym (same_input left left_after text a.text held a.read.taken a.read.end)) good)
 

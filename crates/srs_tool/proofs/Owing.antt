@@ -10,7 +10,7 @@ use Rattle.srs_tool.specs.declared.commands.Command.{Command}
 use Rattle.srs_tool.specs.declared.output.Output.{Output}
 use Rattle.srs_tool.specs.declared.status.Status.{Status}
 use Rattle.srs_tool.specs.declared.status.Status.TheVariants.{Done, Bad, Usage, NoMemory, ReadFault, WriteFault, Refused, TooLong}
-use Rattle.srs_tool.specs.Inputs.{input_of, IsInput, Slips, HasCertificate}
+use Rattle.srs_tool.specs.Inputs.{input_of, IsInput, HasFirstSlip, HasCertificate}
 use Rattle.srs_tool.specs.Verdicts.{fault_line}
 use Rattle.srs_tool.specs.Output.{Owes, refusal_line, refused_long}
 use Rattle.srs_tool.specs.Ends.{ReadsToEnd, IsOverlong, EndsBy, Says}
@@ -22,7 +22,7 @@ owed_as command text status written (Ok o) owed is = rw (is.0, is.1) owed
 owed_as command text status written (Err e) owed is = is
 
 -- the refusal of a text by its first slip
-pub owed_refusal : {E : Type 0} (command : Command) (text : List ℕ) (line : ℕ) (slip : Slip) (r : Result Output E) → Slips (input_of command) text line slip
+pub owed_refusal : {E : Type 0} (command : Command) (text : List ℕ) (line : ℕ) (slip : Slip) (r : Result Output E) → HasFirstSlip (input_of command) text line slip
     → (IsInput (input_of command) text → ⊥) → IfOk r (λ o. (o.status ≡ Refused) × (o.text ≡ refusal_line line slip))
     → IfOk r (λ o. Owes command text o.status o.text)
 owed_refusal command text line slip r first none is =

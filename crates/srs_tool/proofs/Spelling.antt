@@ -5,7 +5,7 @@ use Rattle.srs_line.specs.Fields.{AreNumbers}
 use Rattle.srs_path.specs.Views.{Budget, IsBudget}
 use Rattle.srs_tool.specs.declared.commands.Command.{Command}
 use Rattle.srs_tool.specs.declared.commands.Command.TheVariants.{Certify, Live, Map}
-use Rattle.srs_tool.specs.Words.{limits_numbers, name_of, numbers_of, IsSide, SpellsCrew, Asks}
+use Rattle.srs_tool.specs.Words.{limits_numbers, name_of, numbers_of, IsSide, SpellsCrew, SpellsCommand}
 
 -- what holds anyway holds of none
 pub if_none : {X Q : Type 0} (r : Option X) → Q → IfNone r Q
@@ -19,12 +19,12 @@ numbers_length (t ∷ ts) [] are = absurd are
 numbers_length (t ∷ ts) (z ∷ zs) are = ap (λ (n : ℕ). suc n) (numbers_length ts zs are.1)
 
 -- there are as many words as the command has numbers, and one
-pub asked_length : (words : List (List ℕ)) (c : Command) → Asks words c → length words ≡ suc (length (numbers_of c))
+pub asked_length : (words : List (List ℕ)) (c : Command) → SpellsCommand words c → length words ≡ suc (length (numbers_of c))
 asked_length [] c asked = absurd asked.0
 asked_length (first ∷ others) c asked = ap (λ (n : ℕ). suc n) (numbers_length others (numbers_of c) asked.0.1)
 
 -- where the command has no numbers, there is only its name
-pub asked_alone : (words : List (List ℕ)) (c : Command) → numbers_of c ≡ [] → Asks words c → words ≡ name_of c ∷ []
+pub asked_alone : (words : List (List ℕ)) (c : Command) → numbers_of c ≡ [] → SpellsCommand words c → words ≡ name_of c ∷ []
 asked_alone [] c none asked = absurd asked.0
 asked_alone (first ∷ []) c none asked = ap (λ (word : List ℕ). word ∷ []) asked.0.0
 asked_alone (first ∷ second ∷ more) c none asked = absurd (subst (AreNumbers (second ∷ more)) none asked.0.1)
@@ -32,24 +32,24 @@ asked_alone (first ∷ second ∷ more) c none asked = absurd (subst (AreNumbers
 -- where the words behind the first spell no limits, they don't ask to certify
 pub no_limits : {X : Type 0} (words : List (List ℕ)) (first depth cells wits : List ℕ) (r : Option X) → words ≡ first ∷ depth ∷ cells ∷ wits ∷ []
     → IfNone r ((b : Budget) → AreNumbers (depth ∷ cells ∷ wits ∷ []) (limits_numbers b) → IsBudget b → ⊥)
-    → IfNone r ((b : Budget) → Asks words (Certify b) → ⊥)
+    → IfNone r ((b : Budget) → SpellsCommand words (Certify b) → ⊥)
 no_limits words first depth cells wits None is out =
-    λ b asked. let a = subst (λ (ws : List (List ℕ)). Asks ws (Certify b)) is asked in out b a.0.1 a.1
+    λ b asked. let a = subst (λ (ws : List (List ℕ)). SpellsCommand ws (Certify b)) is asked in out b a.0.1 a.1
 no_limits words first depth cells wits (Some x) is out = tt
 
 -- where they spell no size, they don't ask for a map
 pub no_size : {X : Type 0} (words : List (List ℕ)) (first columns rows : List ℕ) (r : Option X) → words ≡ first ∷ columns ∷ rows ∷ []
     → IfNone r ((w h : ℕ) → AreNumbers (columns ∷ rows ∷ []) (pos w ∷ pos h ∷ []) → IsSide w × IsSide h → ⊥)
-    → IfNone r ((w h : ℕ) → Asks words (Map w h) → ⊥)
+    → IfNone r ((w h : ℕ) → SpellsCommand words (Map w h) → ⊥)
 no_size words first columns rows None is out =
-    λ w h asked. let a = subst (λ (ws : List (List ℕ)). Asks ws (Map w h)) is asked in out w h a.0.1 a.1
+    λ w h asked. let a = subst (λ (ws : List (List ℕ)). SpellsCommand ws (Map w h)) is asked in out w h a.0.1 a.1
 no_size words first columns rows (Some x) is out = tt
 
 -- where they spell no limits and number of workers, they don't ask for a live run
 pub no_order : {X : Type 0} (words : List (List ℕ)) (first depth cells wits workers : List ℕ) (r : Option X)
     → words ≡ first ∷ depth ∷ cells ∷ wits ∷ workers ∷ []
     → IfNone r ((b : Budget) (n : ℕ) → SpellsCrew (depth ∷ cells ∷ wits ∷ workers ∷ []) b n → ⊥)
-    → IfNone r ((b : Budget) (n : ℕ) → Asks words (Live b n) → ⊥)
+    → IfNone r ((b : Budget) (n : ℕ) → SpellsCommand words (Live b n) → ⊥)
 no_order words first depth cells wits workers None is out =
-    λ b n asked. let a = subst (λ (ws : List (List ℕ)). Asks ws (Live b n)) is asked in out b n (a.0.1, a.1)
+    λ b n asked. let a = subst (λ (ws : List (List ℕ)). SpellsCommand ws (Live b n)) is asked in out b n (a.0.1, a.1)
 no_order words first depth cells wits workers (Some x) is out = tt

@@ -26,7 +26,7 @@ abbrev pub IsCut : Input → Option (List ℕ) → Option (List ℕ) → Type 0
 IsCut input left left_after = TookUpTo left left_after (longest input)
 
 -- the source was read to its end, and what the command owes for it at this status was written
-pub record Answers (command : Command) (status : Status) (left left_after got got_after : Option (List ℕ)) : Type 0 where
+pub record EndsAs (command : Command) (status : Status) (left left_after got got_after : Option (List ℕ)) : Type 0 where
   pub text : List ℕ
   pub read : ReadsToEnd (input_of command) left left_after text
   pub output : List ℕ
@@ -44,9 +44,9 @@ pub record BreaksOff (command : Command) (left left_after got got_after : Option
 
 -- How the command ends, by the status: what was taken from the source, what was written, and which end failed
 abbrev pub EndsBy : Command → Status → Option (List ℕ) → Option (List ℕ) → ℕ → ℕ → Option (List ℕ) → Option (List ℕ) → ℕ → ℕ → Type 0
-EndsBy c Done left left_after reads reads_after got got_after writes writes_after = Answers c Done left left_after got got_after
-EndsBy c Bad left left_after reads reads_after got got_after writes writes_after = Answers c Bad left left_after got got_after
-EndsBy c Refused left left_after reads reads_after got got_after writes writes_after = Answers c Refused left left_after got got_after
+EndsBy c Done left left_after reads reads_after got got_after writes writes_after = EndsAs c Done left left_after got got_after
+EndsBy c Bad left left_after reads reads_after got got_after writes writes_after = EndsAs c Bad left left_after got got_after
+EndsBy c Refused left left_after reads reads_after got got_after writes writes_after = EndsAs c Refused left left_after got got_after
 EndsBy c TooLong left left_after reads reads_after got got_after writes writes_after =
     IsOverlong (input_of c) left left_after × Appends got got_after refused_long
 EndsBy c ReadFault left left_after reads reads_after got got_after writes writes_after =

@@ -46,11 +46,11 @@ IsInput Certificate text = (c : CertView) × SpellsCertificate text c
 IsInput Questions text = (c : CertView) × HasQuestions text c
 
 -- the first slip of the text, and its line
-abbrev pub Slips : Input → List ℕ → ℕ → Slip → Type 0
-Slips Polygon text line slip = FirstSlip text line slip
-Slips Sessions text line slip = FirstLiveSlip text line slip
-Slips Certificate text line slip = FirstCertSlip text line slip
-Slips Questions text line slip = FirstAskSlip text line slip
+abbrev pub HasFirstSlip : Input → List ℕ → ℕ → Slip → Type 0
+HasFirstSlip Polygon text line slip = FirstSlip text line slip
+HasFirstSlip Sessions text line slip = FirstLiveSlip text line slip
+HasFirstSlip Certificate text line slip = FirstCertSlip text line slip
+HasFirstSlip Questions text line slip = FirstAskSlip text line slip
 
 -- the text is such an input with this certificate, which is checked
 abbrev pub HasCertificate : Input → List ℕ → CertView → Type 0
@@ -60,8 +60,8 @@ HasCertificate Certificate text c = SpellsCertificate text c
 HasCertificate Questions text c = HasQuestions text c
 
 -- such an input has a certificate
-abbrev pub IsChecked : Input → Type 0
-IsChecked Polygon = ⊥
-IsChecked Sessions = ⊥
-IsChecked Certificate = ⊤
-IsChecked Questions = ⊤
+abbrev pub BringsCertificate : Input → Type 0
+BringsCertificate Polygon = ⊥
+BringsCertificate Sessions = ⊥
+BringsCertificate Certificate = ⊤
+BringsCertificate Questions = ⊤

@@ -23,7 +23,7 @@ use Rattle.srs_raster.specs.Maps.{IsMapText}
 use Rattle.srs_tool.specs.declared.commands.Command.{Command}
 use Rattle.srs_tool.specs.declared.commands.Command.TheVariants.{Certify, Live, Check, Map, Ask}
 use Rattle.srs_tool.specs.declared.commands.Input.{Input}
-use Rattle.srs_tool.specs.Inputs.{input_of, IsInput, Slips, HasCertificate, IsChecked}
+use Rattle.srs_tool.specs.Inputs.{input_of, IsInput, HasFirstSlip, HasCertificate, BringsCertificate}
 use Rattle.srs_tool.specs.Lives.{HasNoMemory, DecidesInRounds, before_certificate}
 use Rattle.srs_tool.specs.Replies.{IsReplyText}
 use Rattle.srs_tool.specs.Verdicts.{valid_line, fault_line}
@@ -122,7 +122,7 @@ pub record FindsFault (input : Input) (text output : List ℕ) : Type 0 where
 pub record Refuses (input : Input) (text output : List ℕ) : Type 0 where
   pub line : ℕ
   pub slip : Slip
-  pub first : Slips input text line slip
+  pub first : HasFirstSlip input text line slip
   pub no_input : IsInput input text → ⊥
   pub written : output ≡ refusal_line line slip
 
@@ -147,4 +147,4 @@ Owes command text TooLong output = ⊥
 
 -- how the command ends for an input that it takes, where no end fails
 abbrev pub EndsWell : Command → Status → Type 0
-EndsWell command status = (status ≡ Done) ⊎ ((status ≡ NoMemory) ⊎ ((status ≡ Bad) × IsChecked (input_of command)))
+EndsWell command status = (status ≡ Done) ⊎ ((status ≡ NoMemory) ⊎ ((status ≡ Bad) × BringsCertificate (input_of command)))

@@ -42,12 +42,12 @@ abbrev pub SpellsCrew : List (List ℕ) → Budget → ℕ → Type 0
 SpellsCrew words b workers = AreNumbers words (crew_numbers b workers) × (IsBudget b × IsCrew workers)
 
 -- the numbers are ones that the command takes
-abbrev pub IsInRange : Command → Type 0
-IsInRange (Certify limits) = IsBudget limits
-IsInRange (Live limits workers) = IsBudget limits × IsCrew workers
-IsInRange Check = ⊤
-IsInRange (Map columns rows) = IsSide columns × IsSide rows
-IsInRange Ask = ⊤
+abbrev pub IsInBounds : Command → Type 0
+IsInBounds (Certify limits) = IsBudget limits
+IsInBounds (Live limits workers) = IsBudget limits × IsCrew workers
+IsInBounds Check = ⊤
+IsInBounds (Map columns rows) = IsSide columns × IsSide rows
+IsInBounds Ask = ⊤
 
 -- the words are the name and the numbers, each in its one spelling
 abbrev pub AreWords : List (List ℕ) → List ℕ → List ℤ → Type 0
@@ -55,8 +55,8 @@ AreWords [] name numbers = ⊥
 AreWords (first ∷ others) name numbers = (first ≡ name) × AreNumbers others numbers
 
 -- the words ask for the command
-abbrev pub Asks : List (List ℕ) → Command → Type 0
-Asks words command = AreWords words (name_of command) (numbers_of command) × IsInRange command
+abbrev pub SpellsCommand : List (List ℕ) → Command → Type 0
+SpellsCommand words command = AreWords words (name_of command) (numbers_of command) × IsInBounds command
 
 -- the command starts no thread
 abbrev pub IsPlain : Command → Type 0
@@ -68,4 +68,4 @@ IsPlain Ask = ⊤
 
 -- the words ask for the command, which starts no thread
 abbrev pub AsksPlain : List (List ℕ) → Command → Type 0
-AsksPlain words command = Asks words command × IsPlain command
+AsksPlain words command = SpellsCommand words command × IsPlain command

@@ -135,7 +135,8 @@ fn answer_at<'c, L: Ledger>(
     steps: &mut Steps<L>,
 ) -> Answer<'c>
     requires { IsBuilt cert.now version.now }
-    ensures { Answers (region_of cert.now.vertices) (outcome_at cert.now.events) r.now (reply_of result) }
+    ensures { Answers (region_of cert.now.vertices) (outcome_at cert.now.events) r.now
+        (reply_of result) }
 {
     match version.leaf(r, steps) {
         Some(path) => leaf_answer(cert, path),

@@ -2,7 +2,7 @@
 ghost use Rattle.std.specs.Prelude.{◌≡◌, ◌≢◌, ◌⊎◌, ◌≤◌, length, map, string_bytes, IfOk, IfErr};
 ghost use Rattle.srs_text.specs.Ends.{Rose};
 ghost use Rattle.srs_tool.specs.declared.commands.Command.{Command};
-ghost use Rattle.srs_tool.specs.Words.{AsksPlain, IsPlain, IsInRange};
+ghost use Rattle.srs_tool.specs.Words.{AsksPlain, IsPlain, IsInBounds};
 ghost use Rattle.srs_tool.specs.Inputs.{input_of, longest};
 ghost use Rattle.srs_tool.specs.Output.{Owes, EndsWell};
 ghost use Rattle.srs_tool.specs.Ends.{Ends, EndsBy, IsGoodRun, WritesNothing};
@@ -47,7 +47,8 @@ pub fn plain<S: Source, K: Sink>(
         (S.left source.old) (S.left source.new) (S.faults source.old) (S.faults source.new)
         (K.got sink.old) (K.got sink.new) (K.faults sink.old) (K.faults sink.new) }
     ensures unwritten { WritesNothing result → sink.new ≡ sink.old }
-    ensures complete { (good : IsGoodRun AsksPlain (map string_bytes words.now) (S.left source.old)) →
+    ensures complete { (good : IsGoodRun AsksPlain (map string_bytes words.now)
+        (S.left source.old)) →
         ¬ (Rose (S.faults source.old) (S.faults source.new)) →
         ¬ (Rose (K.faults sink.old) (K.faults sink.new)) → EndsWell good.command result }
 {
@@ -64,7 +65,7 @@ fn read_and_answer<S: Source, K: Sink>(
     source: &mut S,
     sink: &mut K,
 ) -> Status
-    requires range { IsInRange command.now }
+    requires range { IsInBounds command.now }
     requires plain { IsPlain command.now }
     ensures other { result ≢ Status.Usage }
     ensures ends { EndsBy command.now result
@@ -85,7 +86,7 @@ fn read_and_answer<S: Source, K: Sink>(
 
 // What is owed for an input that was read to its end. An `Err` is want of memory.
 fn answer(alloc: Global, command: &Command, input: &[u8]) -> Result<Output, NoMemory>
-    requires range { IsInRange command.now }
+    requires range { IsInBounds command.now }
     requires plain { IsPlain command.now }
     requires short { length input.now ≤ longest (input_of command.now) }
     ensures { IfOk result (λ o. Owes command.now input.now o.status o.text) }

@@ -3,7 +3,7 @@ ghost use Rattle.std.specs.Prelude.{◌≡◌, ◌≢◌, map, string_bytes};
 ghost use Rattle.srs_text.specs.Ends.{Rose};
 ghost use Rattle.srs_tool.specs.declared.commands.Command.{Command};
 ghost use Rattle.srs_tool.specs.declared.commands.Command.TheVariants.{Live};
-ghost use Rattle.srs_tool.specs.Words.{IsCrew, Asks};
+ghost use Rattle.srs_tool.specs.Words.{IsCrew, SpellsCommand};
 ghost use Rattle.srs_tool.specs.Output.{EndsWell};
 ghost use Rattle.srs_tool.specs.Ends.{Ends, EndsBy, IsGoodRun, WritesNothing};
 
@@ -39,13 +39,13 @@ pub fn run<R: Threads + Wait + Sync, S: Source, K: Sink, G: Gate>(
     gate: &G,
 ) -> Status
     ensures usage { result ≡ Status.Usage → (command : Command) →
-        Asks (map string_bytes words.now) command → ⊥ }
+        SpellsCommand (map string_bytes words.now) command → ⊥ }
     ensures idle { result ≡ Status.Usage → (source.new ≡ source.old) × (sink.new ≡ sink.old) }
-    ensures ends { result ≢ Status.Usage → Ends Asks (map string_bytes words.now) result
+    ensures ends { result ≢ Status.Usage → Ends SpellsCommand (map string_bytes words.now) result
         (S.left source.old) (S.left source.new) (S.faults source.old) (S.faults source.new)
         (K.got sink.old) (K.got sink.new) (K.faults sink.old) (K.faults sink.new) }
     ensures unwritten { WritesNothing result → sink.new ≡ sink.old }
-    ensures complete { (good : IsGoodRun Asks (map string_bytes words.now) (S.left source.old)) →
+    ensures complete { (good : IsGoodRun SpellsCommand (map string_bytes words.now) (S.left source.old)) →
         ¬ (Rose (S.faults source.old) (S.faults source.new)) →
         ¬ (Rose (K.faults sink.old) (K.faults sink.new)) → EndsWell good.command result }
 {

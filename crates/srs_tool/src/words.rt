@@ -5,7 +5,7 @@ ghost use Rattle.srs_path.specs.Views.{Budget, IsBudget};
 ghost use Rattle.srs_line.specs.Fields.{AreNumbers};
 ghost use Rattle.srs_tool.specs.declared.commands.Command.{Command};
 ghost use Rattle.srs_tool.specs.declared.commands.Command.TheVariants.{Certify, Live, Map};
-ghost use Rattle.srs_tool.specs.Words.{limits_numbers, IsSide, IsCrew, SpellsCrew, Asks, AsksPlain};
+ghost use Rattle.srs_tool.specs.Words.{limits_numbers, IsSide, IsCrew, SpellsCrew, SpellsCommand, AsksPlain};
 
 use crate::commands::Command;
 use srs_path::Limits;
@@ -34,9 +34,9 @@ pub fn plain_command(words: &[String]) -> Option<Command>
 
 /// The limits and the number of workers of the `live` that the words ask for, where they do.
 pub fn live_order(words: &[String]) -> Option<(Limits, u32)>
-    ensures some { IfSome result (λ r. Asks (map string_bytes words.now) (Live r.0 r.1)) }
+    ensures some { IfSome result (λ r. SpellsCommand (map string_bytes words.now) (Live r.0 r.1)) }
     ensures none { IfNone result ((b : Budget) (n : ℕ) →
-        Asks (map string_bytes words.now) (Live b n) → ⊥) }
+        SpellsCommand (map string_bytes words.now) (Live b n) → ⊥) }
 {
     let [name, depth, cells, wits, workers] = words else {
         return None;
@@ -94,8 +94,8 @@ fn is_word(word: &str, name: &str) -> bool
 
 // The numbers of columns and rows behind `map`.
 fn map_size(words: &[String]) -> Option<(u32, u32)>
-    ensures some { IfSome result (λ size. Asks (map string_bytes words.now) (Map size.0 size.1)) }
-    ensures none { IfNone result ((w h : ℕ) → Asks (map string_bytes words.now) (Map w h) → ⊥) }
+    ensures some { IfSome result (λ size. SpellsCommand (map string_bytes words.now) (Map size.0 size.1)) }
+    ensures none { IfNone result ((w h : ℕ) → SpellsCommand (map string_bytes words.now) (Map w h) → ⊥) }
 {
     let [name, columns, rows] = words else {
         return None;
@@ -133,9 +133,9 @@ fn side_of(text: &[u8]) -> Option<u32>
 
 // The limits behind `certify`.
 fn certify_limits(words: &[String]) -> Option<Limits>
-    ensures some { IfSome result (λ b. Asks (map string_bytes words.now) (Certify b)) }
+    ensures some { IfSome result (λ b. SpellsCommand (map string_bytes words.now) (Certify b)) }
     ensures none { IfNone result ((b : Budget) →
-        Asks (map string_bytes words.now) (Certify b) → ⊥) }
+        SpellsCommand (map string_bytes words.now) (Certify b) → ⊥) }
 {
     let [name, depth, cells, wits] = words else {
         return None;

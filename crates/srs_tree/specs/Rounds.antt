@@ -61,6 +61,10 @@ pub record IsPlan (Root : Area) (L : Budget) (H : History) : Type 0 where
 abbrev pub HaveSameEntries : History → History → Type 0
 HaveSameEntries G H = (path : List Side) → outcome_at G path ≡ outcome_at H path
 
+-- each cell of H on a path shorter than k has its event
+pub record AreRowsDone (H : History) (k : ℕ) : Type 0 where
+  pub each : (path : List Side) → IsCellOf (outcome_at H) path → length path < k → IsSome (outcome_at H path)
+
 -- e may come next after G by the plan: each cell on a shorter path has its event
 pub record MayComeNext (Root : Area) (L : Budget) (G : History) (e : Entry) : Type 0 where
   pub rows_done : (path : List Side) → IsCellOf (outcome_at G) path → length path < length e.path → IsSome (outcome_at G path)

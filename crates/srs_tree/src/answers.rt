@@ -114,7 +114,12 @@ impl Met {
 
     // The kinds but for the last, and whether a point is beyond.
     pub(crate) fn with_beyond(self, beyond: bool) -> Met
-        ensures { result ≡ record { inside = self.inside; outside = self.outside; undecided = self.undecided; beyond = beyond } }
+        ensures { result ≡ record {
+          inside = self.inside;
+          outside = self.outside;
+          undecided = self.undecided;
+          beyond = beyond;
+        } }
     {
         Met { beyond, ..self }
     }

@@ -18,7 +18,8 @@ pub(crate) fn leaf_with<'a, L: Ledger>(
     ensures none { IfNone result (IsIn (root_of nodes.now) r.now → ⊥) }
     ensures some { IfSome result (λ y. IsLeafFor nodes.now r.now y.now) }
     ensures beyond { IfNone result (steps.new ≤ steps.old + length (root_of nodes.now)) }
-    ensures on_path { IfSome result (λ y. steps.new ≤ steps.old + length (root_of nodes.now) + length y.now.path) }
+    ensures on_path { IfSome result
+        (λ y. steps.new ≤ steps.old + length (root_of nodes.now) + length y.now.path) }
 {
     if nodes.get(0).cell().region().holds(r, steps) {
         Some(descend(nodes, 0, r, steps))
@@ -33,7 +34,8 @@ fn descend<'a, L: Ledger>(nodes: &'a Nodes, i: usize, r: &Pt, steps: &mut Steps<
     requires there { i < length nodes.now }
     requires holds { (x : Spot) → slice_get nodes.now i ≡ Some x → IsIn x.region r.now }
     ensures leaf { IsLeafFor nodes.now r.now result.now }
-    ensures steps { (x : Spot) → slice_get nodes.now i ≡ Some x → steps.new + length x.path ≡ steps.old + length result.now.path }
+    ensures steps { (x : Spot) → slice_get nodes.now i ≡ Some x → steps.new + length x.path ≡
+        steps.old + length result.now.path }
 {
     let node = nodes.get(i);
     // Paths have at most 48 sides, and so the calls end.

@@ -204,7 +204,9 @@ fn halves(alloc: Global, node: &Node, h: &Form) -> Result<(Node, Node), NoMemory
 // A part of the cell at the path.
 fn part(alloc: Global, path: &Path, s: Side, cell: Cell) -> Result<Node, NoMemory>
     requires { length path.now < 48 }
-    ensures { IfOk result (λ node. node ≡ record { path = path.now ++ s ∷ []; region = cell; outcome = None; parts = 0 }) }
+    ensures { IfOk result
+        (λ node. node ≡
+        record { path = path.now ++ s ∷ []; region = cell; outcome = None; parts = 0 }) }
 {
     let Some(child) = path.child(s) else {
         unreachable!()

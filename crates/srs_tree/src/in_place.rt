@@ -44,7 +44,8 @@ impl GrowingTree {
     /// The tree of the cell without an outcome, for a cell of at most 16 halves.
     pub fn start(alloc: Global, cell: Cell) -> Result<GrowingTree, NoMemory>
         requires { length cell ≤ 16 }
-        ensures version { IfOk result (λ t. t.version ≡ record { region = cell; entries = map.empty }) }
+        ensures version { IfOk result
+            (λ t. t.version ≡ record { region = cell; entries = map.empty }) }
         ensures waiting { IfOk result (λ t. t.waiting ≡ record { path = []; region = cell } ∷ []) }
     {
         // A cell has a point.
@@ -57,7 +58,8 @@ impl GrowingTree {
 
     /// The root cell, as one that waits.
     pub fn root(&self) -> Result<Pending, NoMemory>
-        ensures { IfOk result (λ root. root ≡ record { path = []; region = self.now.version.region }) }
+        ensures { IfOk result
+            (λ root. root ≡ record { path = []; region = self.now.version.region }) }
     {
         self.nodes.get(0).waiting(0)
     }
@@ -67,7 +69,8 @@ impl GrowingTree {
     pub fn enter(&mut self, alloc: Global, path: Path, f: Finding) -> Result<Added, TreeErr>
         requires { IsShortCut path f.outcome }
         ensures may { OnOk result (MayEnter self.old.version path f) }
-        ensures entered { OnOk result (self.new.version ≡ with_entry self.old.version path f.outcome) }
+        ensures entered { OnOk result
+            (self.new.version ≡ with_entry self.old.version path f.outcome) }
         ensures waiting { OnOk result (self.new.waiting ≡ without path self.old.waiting
             ++ map_list (cell_in self.new.version) (parts_by path f.outcome)) }
         ensures outcome { IfOk result (λ added. arc_value added.outcome ≡ f.outcome) }
@@ -96,7 +99,8 @@ impl GrowingTree {
     ) -> Result<Added, Finding>
         requires may { MayEnter self.old.version path f }
         requires short { IsShortCut path f.outcome }
-        ensures entered { OnOk result (self.new.version ≡ with_entry self.old.version path f.outcome) }
+        ensures entered { OnOk result
+            (self.new.version ≡ with_entry self.old.version path f.outcome) }
         ensures parts { IfOk result (λ added.
             cells_from added.parts ≡ map_list (cell_in self.new.version) (parts_by path f.outcome)) }
         ensures err { IfErr result (λ g. g ≡ f) }

@@ -70,7 +70,8 @@ pub(crate) fn met_by(alloc: Global, nodes: &Nodes, q: &Cell) -> Result<Met, NoMe
 fn within(alloc: Global, q: &Cell, root: &Region) -> Result<Clip, NoMemory>
     requires few { length q.now + length root.now ≤ 80 }
     ensures clip { IfOk result (λ clip. IsClip q.now (IsIn root.now) clip) }
-    ensures halves { IfOk result (λ clip. IfSome clip.inside (λ cell. length cell ≤ length q.now + length root.now)) }
+    ensures halves { IfOk result
+        (λ clip. IfSome clip.inside (λ cell. length cell ≤ length q.now + length root.now)) }
 {
     let mut inside = q.copy(alloc)?;
     let mut beyond = false;
@@ -95,7 +96,8 @@ fn within(alloc: Global, q: &Cell, root: &Region) -> Result<Clip, NoMemory>
 fn clipped(alloc: Global, cell: Cell, half: &Half) -> Result<Clip, NoMemory>
     requires { length cell < 80 }
     ensures clip { IfOk result (λ clip. IsClip cell (IsInHalf half.now) clip) }
-    ensures halves { IfOk result (λ clip. IfSome clip.inside (λ inside. length inside ≤ length cell + 1)) }
+    ensures halves { IfOk result
+        (λ clip. IfSome clip.inside (λ inside. length inside ≤ length cell + 1)) }
 {
     match half.kind {
         Kind::Ge => clipped_closed(alloc, cell, half),
@@ -108,7 +110,8 @@ fn clipped_closed(alloc: Global, cell: Cell, half: &Half) -> Result<Clip, NoMemo
     requires few { length cell < 80 }
     requires closed { half.now.kind ≡ IsGe }
     ensures clip { IfOk result (λ clip. IsClip cell (IsInHalf half.now) clip) }
-    ensures halves { IfOk result (λ clip. IfSome clip.inside (λ inside. length inside ≤ length cell + 1)) }
+    ensures halves { IfOk result
+        (λ clip. IfSome clip.inside (λ inside. length inside ≤ length cell + 1)) }
 {
     // A cell has a point.
     let _ = cell.region();
@@ -124,7 +127,8 @@ fn clipped_open(alloc: Global, cell: Cell, half: &Half) -> Result<Clip, NoMemory
     requires few { length cell < 80 }
     requires strict { half.now.kind ≡ IsGt }
     ensures clip { IfOk result (λ clip. IsClip cell (IsInHalf half.now) clip) }
-    ensures halves { IfOk result (λ clip. IfSome clip.inside (λ inside. length inside ≤ length cell + 1)) }
+    ensures halves { IfOk result
+        (λ clip. IfSome clip.inside (λ inside. length inside ≤ length cell + 1)) }
 {
     // A cell has a point.
     let _ = cell.region();
@@ -140,7 +144,8 @@ fn met_below(alloc: Global, nodes: &Nodes, i: usize, cell: &Cell) -> Result<Met,
     requires spots { AreSpots nodes.now }
     requires there { i < length nodes.now }
     requires holds { HoldsAll nodes.now i cell.now }
-    requires few { (x : Spot) → slice_get nodes.now i ≡ Some x → length cell.now ≤ 32 + length x.path }
+    requires few { (x : Spot) → slice_get nodes.now i ≡ Some x →
+        length cell.now ≤ 32 + length x.path }
     ensures { IfOk result (λ met. IsMet (root_of nodes.now) (spots_tree nodes.now) cell.now met) }
 {
     let node = nodes.get(i);

@@ -62,7 +62,8 @@ impl Node {
     }
 
     pub(crate) fn outcome(&self) -> Option<&Arc<Outcome>>
-        ensures { MatchOption result (self.now.outcome ≡ None) (λ o. self.now.outcome ≡ Some o.now.value) }
+        ensures { MatchOption result (self.now.outcome ≡ None)
+            (λ o. self.now.outcome ≡ Some o.now.value) }
     {
         self.outcome.as_ref()
     }
@@ -81,9 +82,12 @@ impl Node {
 
     // The place of the part on the side `s` of the cut, if there is one.
     pub(crate) fn part(&self, s: Side) -> Option<usize>
-        requires { (h : LinearForm) → self.now.outcome ≡ Some (IsCut h) → self.now.parts + 1 < 2 ^ 64 }
+        requires { (h : LinearForm) → self.now.outcome ≡ Some (IsCut h) →
+            self.now.parts + 1 < 2 ^ 64 }
         ensures none { IfNone result ((h : LinearForm) → self.now.outcome ≡ Some (IsCut h) → ⊥) }
-        ensures some { IfSome result (λ i. (i ≡ part_place self.now.parts s) × ((h : LinearForm) × (self.now.outcome ≡ Some (IsCut h)))) }
+        ensures some { IfSome result
+            (λ i. (i ≡ part_place self.now.parts s) ×
+            ((h : LinearForm) × (self.now.outcome ≡ Some (IsCut h)))) }
     {
         match (self.outcome()?).as_ref() {
             Outcome::Cut(_) => Some(match s {
@@ -96,7 +100,8 @@ impl Node {
 
     // The form of its cut, if it has one, with the place of the Ge part.
     pub(crate) fn cut(&self) -> Option<(&Form, usize)>
-        ensures { MatchOption result ((h : LinearForm) → self.now.outcome ≡ Some (IsCut h) → ⊥) (λ cut. (self.now.outcome ≡ Some (IsCut cut.0.now)) × (cut.1 ≡ self.now.parts)) }
+        ensures { MatchOption result ((h : LinearForm) → self.now.outcome ≡ Some (IsCut h) → ⊥)
+            (λ cut. (self.now.outcome ≡ Some (IsCut cut.0.now)) × (cut.1 ≡ self.now.parts)) }
     {
         match (self.outcome()?).as_ref() {
             Outcome::Cut(form) => Some((form, self.parts)),
@@ -106,7 +111,8 @@ impl Node {
 
     // The place of the part that is on the point's side of the cut, if there is a cut. It is one step.
     pub(crate) fn part_with<L: Ledger>(&self, r: &Pt, steps: &mut Steps<L>) -> Option<usize>
-        requires { (h : LinearForm) → self.now.outcome ≡ Some (IsCut h) → self.now.parts + 1 < 2 ^ 64 }
+        requires { (h : LinearForm) → self.now.outcome ≡ Some (IsCut h) →
+            self.now.parts + 1 < 2 ^ 64 }
         ensures none { IfNone result ((h : LinearForm) → self.now.outcome ≡ Some (IsCut h) → ⊥) }
         ensures some { IfSome result (λ i. IsPartWith self.now r.now i) }
         ensures no_step { IfNone result (steps.new ≡ steps.old) }
@@ -231,7 +237,8 @@ pub(crate) fn place_near(nodes: &Nodes, near: usize, path: &Path) -> usize
 // The outcome at the path, if it has one.
 pub(crate) fn outcome_at<'a>(nodes: &'a Nodes, path: &Path) -> Option<&'a Outcome>
     requires { AreSpots nodes.now }
-    ensures { MatchOption result (spots_tree nodes.now path.now ≡ None) (λ o. spots_tree nodes.now path.now ≡ Some o.now) }
+    ensures { MatchOption result (spots_tree nodes.now path.now ≡ None)
+        (λ o. spots_tree nodes.now path.now ≡ Some o.now) }
 {
     let Ok(i) = find(nodes, path) else {
         return None;

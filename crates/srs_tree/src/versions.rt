@@ -97,7 +97,8 @@ impl Version {
 
     /// The outcome at the path, if it has one.
     pub fn outcome(&self, path: Path) -> Option<&Outcome>
-        ensures { MatchOption result (tree_of self.now path ≡ None) (λ o. tree_of self.now path ≡ Some o.now) }
+        ensures { MatchOption result (tree_of self.now path ≡ None)
+            (λ o. tree_of self.now path ≡ Some o.now) }
     {
         outcome_at(&self.nodes, &path)
     }
@@ -117,7 +118,8 @@ impl Version {
     /// The path of the leaf that holds the point. `None` exactly where the answer is beyond. The steps are those of
     /// `locate`.
     pub fn leaf<L: Ledger>(&self, r: &Pt, steps: &mut Steps<L>) -> Option<Path>
-        ensures leaf { MatchOption result (IsIn self.now.region r.now → ⊥) (λ path. HoldsAt self.now.region (tree_of self.now) r.now path) }
+        ensures leaf { MatchOption result (IsIn self.now.region r.now → ⊥)
+            (λ path. HoldsAt self.now.region (tree_of self.now) r.now path) }
         ensures at_most { IsDescent self.now.region (tree_of self.now) r.now steps.old steps.new }
     {
         match leaf_with(&self.nodes, r, steps) {

@@ -14,7 +14,9 @@ use std::sync::Arc;
 pub(crate) fn walk(nodes: &Nodes, i: usize, journal: &mut Journal) -> Result<(), NoMemory>
     requires spots { AreSpots nodes.now }
     requires there { i < length nodes.now }
-    ensures { OnOk result ((x : Spot) → slice_get nodes.now i ≡ Some x → journal.new ≡ journal.old ++ preorder_below (entries_of nodes.now) x.path) }
+    ensures { OnOk result
+        ((x : Spot) → slice_get nodes.now i ≡ Some x → journal.new ≡
+        journal.old ++ preorder_below (entries_of nodes.now) x.path) }
 {
     let node = nodes.get(i);
     let Some(outcome) = node.outcome() else {
@@ -33,7 +35,8 @@ pub(crate) fn walk(nodes: &Nodes, i: usize, journal: &mut Journal) -> Result<(),
 
 // Appends the outcome at the path. An `Err` is want of memory.
 fn append(journal: &mut Journal, path: Path, outcome: &Arc<Outcome>) -> Result<(), NoMemory>
-    ensures { OnOk result (journal.new ≡ journal.old ++ event_of (path, arc_value outcome.now) ∷ []) }
+    ensures { OnOk result
+        (journal.new ≡ journal.old ++ event_of (path, arc_value outcome.now) ∷ []) }
 {
     let event = Event {
         path,

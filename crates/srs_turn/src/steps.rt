@@ -57,7 +57,8 @@ impl<B: Told> Turn<B> {
     // Counts the new entry, if the book in the slot has one.
     fn store_count(&self, seat: &mut SeatOf<B>, was: u64, count: u64)
         requires held { Holds self.now seat.old }
-        requires grown { (book : B) × (seat.old.me.1 ≡ (0, Some book) ∷ []) × AddsAtMostOne (seen_by seat.old) (B.told book) × (count ≡ length (B.told book)) }
+        requires grown { (book : B) × (seat.old.me.1 ≡ (0, Some book) ∷ []) ×
+            AddsAtMostOne (seen_by seat.old) (B.told book) × (count ≡ length (B.told book)) }
         requires was { was ≡ length (seen_by seat.old) }
         ensures held { Holds self.now seat.new × (seat.new.me.1 ≡ seat.old.me.1) }
         ensures seen { seen_by seat.new ≡ told_in B.told seat.old.me.1 }

@@ -88,9 +88,12 @@ impl<B: Told> Turn<B> {
     /// then seen the list after `op`.
     pub fn with_turn<A: Act<B>, R: Wait>(&self, rt: &R, pass: &mut Pass<B>, op: A) -> A::Reply
         requires own { IsPassOf self.now pass.old }
-        requires ready { (list : List B.Entry) → Begins pass.old.seen list → A.ready op self.now.fixed list }
+        requires ready { (list : List B.Entry) → Begins pass.old.seen list →
+            A.ready op self.now.fixed list }
         ensures own { IsPassOf self.now pass.new }
-        ensures did { (before : List B.Entry) × Begins pass.old.seen before × AddsAtMostOne before pass.new.seen × A.did op self.now.fixed before result pass.new.seen }
+        ensures did { (before : List B.Entry) × Begins pass.old.seen before ×
+            AddsAtMostOne before pass.new.seen ×
+            A.did op self.now.fixed before result pass.new.seen }
     {
         let mut book = self.take(rt, &mut pass.seat);
         let was = book.count();

@@ -10,8 +10,8 @@ abbrev pub run_pair : Run → ℕ → V2
 run_pair r k = pair r.a (if r.back then r.first -ℤ pos k else r.first +ℤ pos k)
 
 -- the step of the run
-abbrev pub step_of : Run → Step
-step_of r = record { by = if r.back then negsuc 0 else pos 1 }
+abbrev pub stride_of : Run → Step
+stride_of r = record { by = if r.back then negsuc 0 else pos 1 }
 
 -- the run has the n pairs that begin with the second entry of w and end from low to high
 pub record IsRunOf (w : V2) (low high : ℤ) (n : ℕ) (r : Run) : Type 0 where

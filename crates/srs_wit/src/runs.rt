@@ -1,7 +1,7 @@
 // Pairs with one first entry, in a row.
 ghost use Rattle.std.specs.Prelude.{◌≡◌, ◌<◌, ◌≤◌, ◌^◌, not, pos, ◌-ℤ◌};
 ghost use Rattle.srs_num.specs.Points.{IsWithin};
-ghost use Rattle.srs_wit.specs.Runs.{run_pair, step_of, IsRunOf, turned};
+ghost use Rattle.srs_wit.specs.Runs.{run_pair, stride_of, IsRunOf, turned};
 
 use crate::spans::is_downward;
 use srs_cell::Span;
@@ -58,7 +58,7 @@ impl Run {
     // By how much the second entry of a pair differs from that of the one before it.
     #[inline(always)]
     pub(crate) fn step(self) -> Step
-        ensures { result ≡ step_of self }
+        ensures { result ≡ stride_of self }
     {
         Step {
             by: if self.back { -1 } else { 1 },
@@ -69,7 +69,7 @@ impl Run {
     #[inline(always)]
     pub(crate) fn pair(self, step: Step, k: u64) -> V2
         requires first { IsWithin (2 ^ 41) self.first }
-        requires step { step ≡ step_of self }
+        requires step { step ≡ stride_of self }
         requires few { k < 2 ^ 43 }
         ensures { result ≡ run_pair self k }
     {

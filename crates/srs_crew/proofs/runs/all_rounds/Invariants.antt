@@ -1,5 +1,5 @@
 use Rattle.srs_turn.specs.Passes.{IsPassOf}
-use Rattle.srs_crew.specs.Rounds.{AreRowsDone}
+use Rattle.srs_tree.specs.Rounds.{AreRowsDone}
 use Rattle.srs_crew.proofs.runs.all_rounds.Given as goal
 
 abbrev pub invariant-loop-round : goal.invariant-loop-round
