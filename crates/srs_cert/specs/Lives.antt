@@ -66,10 +66,11 @@ pub record IsLiveTextOf (vertices : List Vertex) (limits : Budget) (H : History)
   pub certificate : IsCertificate (cert_of vertices limits snapshot)
   pub written : text ≡ live_text H told (cert_of vertices limits snapshot)
 
--- the statement that a text without sessions is that of one run: the lines of the journal give the paths in their order,
--- and the certificate gives the polygon, the limits and the outcomes
+-- the statement that a text is that of one run: the lines of the journal give the paths in their
+-- order, those of the sessions what each was told, and the certificate gives the polygon, the limits
+-- and the outcomes
 abbrev pub LiveTextIsOne : Type 0
 LiveTextIsOne =
-    (vs ws : List Vertex) (a b : Budget) (G H : History) (text : List ℕ)
-    → IsLegal (region_of vs) a.wits G → IsLegal (region_of ws) b.wits H → IsLiveTextOf vs a G [] text → IsLiveTextOf ws b H [] text
-    → (vs ≡ ws) × (a ≡ b) × (G ≡ H)
+    (vs ws : List Vertex) (a b : Budget) (G H : History) (S T : List (List Said)) (text : List ℕ)
+    → IsLegal (region_of vs) a.wits G → IsLegal (region_of ws) b.wits H → IsLiveTextOf vs a G S text → IsLiveTextOf ws b H T text
+    → (vs ≡ ws) × (a ≡ b) × (G ≡ H) × (S ≡ T)

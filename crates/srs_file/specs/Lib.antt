@@ -1,4 +1,5 @@
 pub mod Questions
+pub mod Scripts
 pub mod Grammar
 pub mod Ring
 pub mod Outline

@@ -37,3 +37,11 @@ AreQuestions [] [] = ⊤
 AreQuestions [] (q ∷ qs) = ⊥
 AreQuestions (text ∷ texts) [] = ⊥
 AreQuestions (text ∷ texts) (q ∷ qs) = IsQuestion text q × AreQuestions texts qs
+
+-- the text asks the question in a session, where it may be `fresh` or `count` too
+abbrev pub IsSessionQuestion : List ℕ → Query → Type 0
+IsSessionQuestion text Fresh = text ≡ ended (codes "fresh")
+IsSessionQuestion text Count = text ≡ ended (codes "count")
+IsSessionQuestion text (Point r) = IsQuestion text (Point r)
+IsSessionQuestion text (Polygon q) = IsQuestion text (Polygon q)
+IsSessionQuestion text (Orbit r z n) = IsQuestion text (Orbit r z n)

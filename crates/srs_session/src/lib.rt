@@ -1,6 +1,8 @@
-//! Sessions beside workers: for now only the gate before which both call.
+//! Sessions beside workers: how a segment is played, and the gate before which both call.
 #![tactic(auto)]
 
 mod gate;
+mod play;
 
 pub use gate::{FreeGate, Gate};
+pub use play::play;

@@ -1,12 +1,10 @@
-//! Worked examples of the calls that threads share: the turn round a book of numbers, numbers that are drawn, and the gate that
-//! lets all pass.
+//! Worked examples of the calls that threads share: the turn round a book of numbers, and numbers
+//! that are drawn.
 #![tactic(auto)]
 
 #[cfg(test)]
 mod book;
 #[cfg(test)]
 mod claims;
-#[cfg(test)]
-mod gates;
 #[cfg(test)]
 mod turns;
