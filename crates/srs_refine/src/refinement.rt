@@ -5,6 +5,7 @@ ghost use Rattle.srs_path.specs.Witnesses.{IsSmall};
 ghost use Rattle.srs_path.specs.ChosenCycle.{IsChosen};
 ghost use Rattle.srs_path.specs.Refinement.{StaysOpen, Refines};
 ghost use Rattle.srs_wit.specs.Listing.{AreAllWitnesses};
+ghost use Rattle.srs_refine.specs.Found.{IsFoundOf};
 ghost use Rattle.srs_path.specs.declared.limits.TheConstants.{MOST_WITNESSES};
 
 use srs_cell::Cell;
@@ -46,6 +47,28 @@ impl Refiner {
         let outcome = outcome_of(alloc, &mut self.searcher, cell, last, w)?;
         let region = cell.region().copy(alloc)?;
         Ok(Finding::found(region, w, outcome))
+    }
+
+    /// As `refine`, but a cell for whose outcome there is no memory is left for that. Its region is
+    /// copied first: an `Err` is want of memory for the copy alone.
+    pub fn refine_or_leave(
+        &mut self,
+        alloc: Global,
+        cell: &Cell,
+        last: Option<Last>,
+        w: u32,
+    ) -> Result<Finding, NoMemory>
+        requires some { 1 ≤ w }
+        requires few { w ≤ MOST_WITNESSES }
+        ensures region { IfOk result (λ finding. finding.region ≡ cell.now) }
+        ensures w { IfOk result (λ finding. finding.w ≡ w) }
+        ensures outcome { IfOk result (λ finding. IsFoundOf cell.now last w finding.outcome) }
+    {
+        let region = cell.region().copy(alloc)?;
+        match outcome_of(alloc, &mut self.searcher, cell, last, w) {
+            Ok(outcome) => Ok(Finding::found(region, w, outcome)),
+            Err(NoMemory) => Ok(Finding::unfound(region, w)),
+        }
     }
 }
 

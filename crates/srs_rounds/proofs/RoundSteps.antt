@@ -12,10 +12,9 @@ use Rattle.srs_plane.specs.Regions.{Area}
 use Rattle.srs_path.specs.declared.paths.Side.{Side}
 use Rattle.srs_path.specs.declared.outcomes.Outcome.{Outcome}
 use Rattle.srs_path.specs.declared.outcomes.Outcome.TheVariants.{Inside, Outside, Cut, Left}
-use Rattle.srs_path.specs.declared.outcomes.Cause.TheVariants.{Memory}
 use Rattle.srs_path.specs.declared.limits.Last.{Last}
 use Rattle.srs_path.specs.Views.{Budget, IsBudget, Entry, last_of}
-use Rattle.srs_path.specs.Refinement.{Refines}
+use Rattle.srs_refine.specs.Found.{IsFoundOf}
 use Rattle.srs_path.specs.Soundness.{IsSound}
 use Rattle.srs_tree.specs.Tree.{History, Tree, outcome_at, IsCellOf, region_at}
 use Rattle.srs_tree.specs.Legality.{MayFollow, IsLegal}
@@ -79,14 +78,12 @@ parts_few p (Cut h) = omega arith
 parts_few p (Left cause) = omega arith
 
 -- where a limit is spent, the outcome has no parts
-no_parts : (R : Area) (last : Option Last) (W : ℕ) (p : List Side) (o : Outcome) → Refines R last W o → last ≢ None → parts_by p o ≡ []
+no_parts : (R : Area) (last : Option Last) (W : ℕ) (p : List Side) (o : Outcome) → IsFoundOf R last W o → last ≢ None → parts_by p o ≡ []
 no_parts R last W p (Inside ranks) r n = refl
 no_parts R last W p (Outside cycle) r n = refl
-no_parts R last W p (Cut h) r n = absurd (n r.0)
+no_parts R last W p (Cut h) (inl e) n = absurd (cc)
+no_parts R last W p (Cut h) (inr r) n = absurd (n r.0)
 no_parts R last W p (Left cause) r n = refl
-
-no_memory_by : (R : Area) (last : Option Last) (W : ℕ) (o : Outcome) → Refines R last W o → o ≢ Left Memory
-no_memory_by R last W o r e = let none : Refines R last W (Left Memory) = subst (Refines R last W) e r in none
 
 -- what a snapshot says of the cells of its history
 module _ (Root : Area) (H : History) (v : Snapshot) (stands : StandsFor Root H v) where
@@ -105,7 +102,6 @@ starts Root b v waiting budget is one = record {
   history = [];
   underway = record {
     planned = IsPlanned-empty Root b;
-    no_memory = λ e c. let l = c.1 in absurd (omega (arith, l));
     stands = subst (StandsFor Root []) (sym is) (Stands-empty Root);
     waits = one ∙ ap (λ (R : Area). let x : WaitingCell = record { path = []; region = R } in x ∷ []) (sym (append-nil Root) ∙ ap (λ (w : Snapshot). w.region ++ []) (sym is));
   };
@@ -196,9 +192,9 @@ module _ (Root : Area) (b : Budget) (k cells : ℕ) where
       may_come : MayComeNext Root b H e
       may_come = record {
         rows_done = subst (Closed H) (sym at_depth) (closed_by_queue Root b.wits H k legal long);
-        by_plan = inr (subst (λ (n : ℕ). Refines (region_at Root (outcome_at H) x.path) (last_in b H n) b.wits g.outcome) (sym at_depth)
-            (subst (λ (l : Option Last). Refines (region_at Root (outcome_at H) x.path) l b.wits g.outcome) (sym s.last)
-            (subst (λ (R : Area). Refines R last_here b.wits g.outcome) region_here g.refined)));
+        by_plan = subst (λ (n : ℕ). IsFoundOf (region_at Root (outcome_at H) x.path) (last_in b H n) b.wits g.outcome) (sym at_depth)
+            (subst (λ (l : Option Last). IsFoundOf (region_at Root (outcome_at H) x.path) l b.wits g.outcome) (sym s.last)
+            (subst (λ (R : Area). IsFoundOf R last_here b.wits g.outcome) region_here g.found));
       }
 
       abbrev next : History
@@ -239,10 +235,6 @@ module _ (Root : Area) (b : Budget) (k cells : ℕ) where
         history = next;
         underway = record {
           planned = IsPlanned-append Root b H e s.underway.planned may_follow may_come;
-          no_memory = λ f c. elim (Contains-push_cases H e f c) [
-            | inl d ↦ s.underway.no_memory f d
-            | inr q ↦ subst (λ (y : Entry). y.outcome ≢ Left Memory) q (no_memory_by x.region last_here b.wits g.outcome g.refined)
-          ];
           stands = stands_next;
           waits = waits_next;
         };
@@ -256,7 +248,7 @@ module _ (Root : Area) (b : Budget) (k cells : ℕ) where
           | inr q ↦ subst (λ (y : Entry). length y.path < k + 1) q (omega (arith, at_depth))
         ];
         few = let n = parts_few x.path g.outcome in let old = s.few in omega (arith, n, old, length_after);
-        uncut = λ n. g.parts ∙ ap₂ (λ (a : List WaitingCell) (ps : List (List Side)). a ++ map (cell_in w) ps) (s.uncut n) (no_parts x.region last_here b.wits x.path g.outcome g.refined n);
+        uncut = λ n. g.parts ∙ ap₂ (λ (a : List WaitingCell) (ps : List (List Side)). a ++ map (cell_in w) ps) (s.uncut n) (no_parts x.region last_here b.wits x.path g.outcome g.found n);
       }
 
     -- where none of the round waits, the next one starts
@@ -286,7 +278,7 @@ finished Root b k cells v w waiting none same s =
     let empty : queue_of s.history ≡ [] = no_path (queue_of s.history) (sym s.underway.waits ∙ none) in
     let t = done Root b s.history s.underway.planned empty in
     subst (IsRefined Root b) (sym same)
-    (record { history = s.history; plan = record { whole = t.0; no_memory = s.underway.no_memory }; in_rounds = t.1; stands = s.underway.stands })
+    (record { history = s.history; whole = t.0; in_rounds = t.1; stands = s.underway.stands })
   where
     no_path : (q : List (List Side)) → map (cell_in v) q ≡ [] → q ≡ []
     no_path [] e = refl

@@ -4,28 +4,26 @@ use Rattle.std.specs.List.{AllByRecursion}
 use Rattle.std.specs.declared.option.Option.{Option}
 use Rattle.srs_plane.specs.Regions.{Area}
 use Rattle.srs_path.specs.declared.outcomes.Outcome.{Outcome}
-use Rattle.srs_path.specs.declared.outcomes.Outcome.TheVariants.{Left}
-use Rattle.srs_path.specs.declared.outcomes.Cause.TheVariants.{Memory}
 use Rattle.srs_path.specs.declared.limits.Last.{Last}
 use Rattle.srs_path.specs.Views.{Budget, Entry, last_of}
-use Rattle.srs_path.specs.Refinement.{Refines}
+use Rattle.srs_refine.specs.Found.{IsFoundOf}
 use Rattle.srs_path.specs.Soundness.{IsSound}
 use Rattle.srs_tree.specs.Tree.{History}
-use Rattle.srs_tree.specs.Rounds.{parts_by, cells_of, last_in, IsPlanned, IsPlan, IsInRounds}
+use Rattle.srs_tree.specs.Rounds.{parts_by, cells_of, last_in, IsPlanned, IsWhole, IsInRounds}
 use Rattle.srs_tree.specs.Snapshots.{Snapshot, with_entry, StandsFor}
 use Rattle.srs_tree.specs.Queue.{queue_of, WaitingCell, cell_in}
 
--- v stands for the plan of the region, in rounds
+-- v stands for a whole history of the region, in rounds: the plan, where no cell was left for want of
+-- memory
 pub record IsRefined (Root : Area) (b : Budget) (v : Snapshot) : Type 0 where
   pub history : History
-  pub plan : IsPlan Root b history
+  pub whole : IsWhole Root b history
   pub in_rounds : IsInRounds history
   pub stands : StandsFor Root history v
 
--- v stands for the planned history H, in which no event came for want of memory, and these cells wait, in this order
+-- v stands for the planned history H, and these cells wait, in this order
 pub record IsUnderway (Root : Area) (b : Budget) (H : History) (v : Snapshot) (waiting : List WaitingCell) : Type 0 where
   pub planned : IsPlanned Root b H
-  pub no_memory : (e : Entry) → Contains H e → e.outcome ≢ Left Memory
   pub stands : StandsFor Root H v
   pub waits : waiting ≡ map (cell_in v) (queue_of H)
 
@@ -58,10 +56,10 @@ pub record IsInRound (Root : Area) (b : Budget) (k cells pending : ℕ) (v : Sna
   pub few : length later + 2 * length waiting ≤ 2 * pending
   pub uncut : last_of b k cells pending ≢ None → later ≡ []
 
--- from v to w the cell got its outcome, where `last` is spent, and its parts came behind those that wait already
+-- from v to w the cell got its outcome, where `last` is spent, or was left for want of memory, and its parts came behind those that wait already
 pub record GetsOutcome (last : Option Last) (W : ℕ) (v w : Snapshot) (cell : WaitingCell) (waiting waiting_after : List WaitingCell) : Type 0 where
   pub outcome : Outcome
-  pub refined : Refines cell.region last W outcome
+  pub found : IsFoundOf cell.region last W outcome
   pub sound : IsSound cell.region W outcome
   pub entered : w ≡ with_entry v cell.path outcome
   pub parts : waiting_after ≡ waiting ++ map (cell_in w) (parts_by cell.path outcome)

@@ -12,8 +12,9 @@ use srs_refine::Refiner;
 use srs_tree::{Pending, TreeBuilder, Version};
 use std::alloc::Global;
 
-/// The tree of the cell, which has at most 16 halves: round by round, each cell has the outcome of its region, and a limit
-/// is spent for all cells of a round or for none. An `Err` is want of memory.
+/// The tree of the cell, which has at most 16 halves: round by round, each cell has the outcome of its
+/// region, or is left where there was no memory for it, and a limit is spent for all cells of a round
+/// or for none. An `Err` is want of memory for the tree.
 pub fn rounds(alloc: Global, cell: Cell, limits: &Limits) -> Result<Version, NoMemory>
     requires { length cell ≤ 16 }
     ensures { IfOk result (IsRefined cell limits.now) }
@@ -85,7 +86,7 @@ fn refine_cell(
     ensures { OnOk result
         (GetsOutcome last wits tree.old tree.new pending.now next.old.items next.new.items) }
 {
-    let finding = refiner.refine(alloc, &pending.cell, last, wits)?;
+    let finding = refiner.refine_or_leave(alloc, &pending.cell, last, wits)?;
     if let Some((ge, lt)) = tree.add(alloc, pending.place, pending.path, finding)? {
         next.push(ge)?;
         next.push(lt)?;

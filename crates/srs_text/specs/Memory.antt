@@ -1,17 +1,21 @@
 -- What is seen of the ends in memory.
 use Rattle.std.specs.Prelude.{◌+◌, ◌-◌, ◌^◌, min, ℕ, ℤ, List, Result, Ok, Err}
 
--- the bytes that are left, the numbers of the reads that fail, the number of the next read, and how many have failed
+-- the bytes that are left, how many a read takes at most, the numbers of the reads that fail, the
+-- number of the next read, and how many have failed
 pub record Reading : Type 0 where
   pub left : List ℕ
+  pub most : ℕ
   pub fail : List ℤ
   pub next : ℕ
   pub failed : ℕ
 
--- the bytes taken, how many fit, the numbers of the writes that fail, the number of the next write, and how many have failed
+-- the bytes taken, how many fit, how many a write takes at most, the numbers of the writes that fail,
+-- the number of the next write, and how many have failed
 pub record Writing : Type 0 where
   pub got : List ℕ
   pub room : ℕ
+  pub most : ℕ
   pub fail : List ℤ
   pub next : ℕ
   pub failed : ℕ

@@ -50,12 +50,14 @@ impl Calls {
     }
 }
 
-/// A source in memory. It is seen as the bytes that are left (`left`), the numbers of the reads that fail
-/// (`fail`), the number of the next read (`next`) and how many have failed (`failed`, its count of faults).
+/// A source in memory. It is seen as the bytes that are left (`left`), how many a read takes at most
+/// (`most`), the numbers of the reads that fail (`fail`), the number of the next read (`next`) and how
+/// many have failed (`failed`, its count of faults).
 #[derive(Drop)]
 pub struct MemSource {
     bytes: Bytes,
     at: usize,
+    most: u64,
     calls: Calls,
 }
 
@@ -65,19 +67,30 @@ impl Model for MemSource {
 
     ghost Value = { Reading };
 
-    ghost view = { λ s. record { left = drop s.at s.bytes; fail = s.calls.fail; next = s.calls.next; failed = s.calls.failed } };
+    ghost view = { λ s. record { left = drop s.at s.bytes; most = s.most; fail = s.calls.fail; next = s.calls.next; failed = s.calls.failed } };
 
-    ghost invariant = { λ s. (s.at ≤ length s.bytes) × (s.calls.next < 2 ^ 63) };
+    ghost invariant = { λ s. (s.at ≤ length s.bytes) × (1 ≤ s.most) × (s.calls.next < 2 ^ 63) };
 }
 
 impl MemSource {
     /// The reads whose numbers are in `fail` fail, the first being 0. It takes no memory.
     pub fn new(bytes: Bytes, fail: Nums) -> MemSource
-        ensures { result ≡ record { left = bytes; fail = fail; next = 0; failed = 0 } }
+        ensures { result ≡
+            record { left = bytes; most = 2 ^ 64 - 1; fail = fail; next = 0; failed = 0 } }
+    {
+        MemSource::cut(bytes, fail, u64::MAX)
+    }
+
+    /// As `new`, with at most `piece` bytes a read, which is at least 1. It takes no memory.
+    pub fn cut(bytes: Bytes, fail: Nums, piece: u64) -> MemSource
+        requires { 1 ≤ piece }
+        ensures { result ≡
+            record { left = bytes; most = piece; fail = fail; next = 0; failed = 0 } }
     {
         MemSource {
             bytes,
             at: 0,
+            most: piece,
             calls: Calls::new(fail),
         }
     }
@@ -95,7 +108,7 @@ impl Source for MemSource {
 
     ghost faults = { λ s. s.failed };
 
-    /// Takes what is left, as far as `into` reaches. The number of the next read stays at the greatest i64, and
+    /// Takes what is left, as far as `into` and the most of a read reach. The number of the next read stays at the greatest i64, and
     /// the count of failures at the greatest u64.
     fn read(&mut self, into: &mut [u8]) -> Result<usize, Failed>
         requires { 0 < length into.old }
@@ -103,29 +116,33 @@ impl Source for MemSource {
         ensures bytes { ReadConsumes (Some self.old.left) (Some self.new.left) result into.new }
         ensures cause { HasCause self.old.failed self.new.failed result }
         ensures fails { IsErr result ↔ Contains self.old.fail (pos self.old.next) }
-        ensures count { IfOk result (λ n. n ≡ min (length into.new) (length self.old.left)) }
+        ensures count { IfOk result
+            (λ n. n ≡ min (min (length into.new) self.old.most) (length self.old.left)) }
         ensures next { self.new.next ≡ next_call self.old.next }
         ensures failed { self.new.failed ≡ failures_after result self.old.failed }
         ensures list { self.new.fail ≡ self.old.fail }
+        ensures most { self.new.most ≡ self.old.most }
     {
         if self.calls.begin() {
             return Err(self.calls.failure());
         }
         let left = &self.bytes.as_slice()[self.at..];
-        let count = left.len().min(into.len());
+        let reach = (into.len() as u64).min(self.most) as usize;
+        let count = left.len().min(reach);
         into[..count].copy_from_slice(&left[..count]);
         self.at += count;
         Ok(count)
     }
 }
 
-/// A sink in memory. It is seen as the bytes taken (`got`), how many fit in all (`room`), the numbers of the
-/// writes that fail (`fail`), the number of the next write (`next`) and how many have failed (`failed`, its count
-/// of faults).
+/// A sink in memory. It is seen as the bytes taken (`got`), how many fit in all (`room`), how many a
+/// write takes at most (`most`), the numbers of the writes that fail (`fail`), the number of the next
+/// write (`next`) and how many have failed (`failed`, its count of faults).
 #[derive(Drop)]
 pub struct MemSink {
     bytes: Vec<u8>,
     room: usize,
+    most: u64,
     calls: Calls,
 }
 
@@ -135,9 +152,9 @@ impl Model for MemSink {
 
     ghost Value = { Writing };
 
-    ghost view = { λ s. record { got = s.bytes.items; room = s.room; fail = s.calls.fail; next = s.calls.next; failed = s.calls.failed } };
+    ghost view = { λ s. record { got = s.bytes.items; room = s.room; most = s.most; fail = s.calls.fail; next = s.calls.next; failed = s.calls.failed } };
 
-    ghost invariant = { λ s. (vec_len s.bytes ≤ s.room) × (s.room ≤ vec_capacity s.bytes) × (s.calls.next < 2 ^ 63) };
+    ghost invariant = { λ s. (vec_len s.bytes ≤ s.room) × (s.room ≤ vec_capacity s.bytes) × (1 ≤ s.most) × (s.calls.next < 2 ^ 63) };
 }
 
 impl MemSink {
@@ -145,13 +162,37 @@ impl MemSink {
     /// first being 0.
     pub fn new(alloc: Global, room: u64, fail: Nums) -> Result<MemSink, NoMemory>
         ensures { IfOk result
-            (λ sink. sink ≡ record { got = []; room = room; fail = fail; next = 0; failed = 0 }) }
+            (λ sink. sink ≡ record {
+              got = [];
+              room = room;
+              most = 2 ^ 64 - 1;
+              fail = fail;
+              next = 0;
+              failed = 0;
+            }) }
+    {
+        MemSink::cut(alloc, room, fail, u64::MAX)
+    }
+
+    /// As `new`, with at most `piece` bytes a write, which is at least 1.
+    pub fn cut(alloc: Global, room: u64, fail: Nums, piece: u64) -> Result<MemSink, NoMemory>
+        requires { 1 ≤ piece }
+        ensures { IfOk result
+            (λ sink. sink ≡ record {
+              got = [];
+              room = room;
+              most = piece;
+              fail = fail;
+              next = 0;
+              failed = 0;
+            }) }
     {
         let room = room as usize;
         match Vec::with_capacity(alloc, room) {
             Ok(bytes) => Ok(MemSink {
                 bytes,
                 room,
+                most: piece,
                 calls: Calls::new(fail),
             }),
             Err(_) => Err(NoMemory),
@@ -171,8 +212,9 @@ impl Sink for MemSink {
 
     ghost faults = { λ s. s.failed };
 
-    /// Takes a front of the piece, as far as there is room; where there is none it fails. The number of the next
-    /// write stays at the greatest i64, and the count of failures at the greatest u64.
+    /// Takes a front of the piece, as far as there is room and the most of a write reaches; where there
+    /// is no room it fails. The number of the next write stays at the greatest i64, and the count of
+    /// failures at the greatest u64.
     fn write(&mut self, piece: &[u8]) -> Result<usize, Failed>
         requires { 0 < length piece.now }
         ensures count { IfOk result (IsSomeOf piece.now) }
@@ -181,16 +223,19 @@ impl Sink for MemSink {
         ensures fails { IsErr result ↔
             (Contains self.old.fail (pos self.old.next) ⊎ (self.old.room ≤ length self.old.got)) }
         ensures takes { IfOk result
-            (λ n. n ≡ min (length piece.now) (self.old.room - length self.old.got)) }
+            (λ n. n ≡
+            min (min (length piece.now) self.old.most) (self.old.room - length self.old.got)) }
         ensures next { self.new.next ≡ next_call self.old.next }
         ensures failed { self.new.failed ≡ failures_after result self.old.failed }
         ensures list { self.new.fail ≡ self.old.fail }
         ensures room { self.new.room ≡ self.old.room }
+        ensures most { self.new.most ≡ self.old.most }
     {
         if self.calls.begin() || self.bytes.len() >= self.room {
             return Err(self.calls.failure());
         }
-        let count = piece.len().min(self.room - self.bytes.len());
+        let reach = (piece.len() as u64).min(self.most) as usize;
+        let count = reach.min(self.room - self.bytes.len());
         self.bytes.extend_from_slice(&piece[..count]).unwrap();
         Ok(count)
     }

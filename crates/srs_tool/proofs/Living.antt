@@ -19,8 +19,8 @@ use Rattle.srs_cert.specs.Certificates.{CertView, IsCertificate, cert_text}
 use Rattle.srs_cert.specs.Lives.{cert_of, live_text, IsLiveTextOf, LiveTextIsOne}
 use Rattle.srs_crew.specs.Runs.{IsRun}
 use Rattle.srs_tool.specs.Lives.{HasNoMemory, DecidesInRounds}
-use Rattle.srs_tool.specs.Output.{IsCertificateOf, EndsWithCertificate, IsLiveRunOf}
-use Rattle.srs_tool.proofs.Certifying.{events_sound, plan_decides, one_certificate_of}
+use Rattle.srs_tool.specs.Output.{IsPlanCertificateOf, EndsWithCertificate, IsLiveRunOf}
+use Rattle.srs_tool.proofs.Certifying.{events_sound, planned_text, one_certificate_of}
 
 -- in preorder the events of a run list a whole tree within the limits
 pub run_listed : (b : Budget) (R : Area) (script : List (List Segment)) (run : Run) → IsBudget b → IsRun R b script run → ListsWholeTree (preorder_of run.version) × IsWithin b (preorder_of run.version)
@@ -36,19 +36,14 @@ module _ (vs : List Vertex) (b : Budget) (H : History) (v : Snapshot) (point : H
   pub decides_in_rounds : IsInRounds H → DecidesInRounds Root b H
   decides_in_rounds rounds = record { whole = whole; in_rounds = rounds; partitions = partition_at; sound = events_sound Root b.wits H whole.legal }
 
-  -- where no cell was left for want of memory, the history is the plan, and so its certificate is that of the plan
-  planned_text : HasNoMemory H → IsCertificateOf vs b (cert_text (cert_of vs b v))
-  planned_text none = record {
-    history = H;
-    decides = plan_decides Root b H point (record { whole = whole; no_memory = none });
-    written = record { snapshot = v; stands = stands; written = refl };
-  }
+  plan_text : HasNoMemory H → IsPlanCertificateOf vs b (cert_text (cert_of vs b v))
+  plan_text = planned_text vs b H (cert_text (cert_of vs b v)) whole (record { snapshot = v; stands = stands; written = refl })
 
   pub ends_with_certificate : HasNoMemory H → (told : List (List Said)) (text : List ℕ) → text ≡ live_text H told (cert_of vs b v) → EndsWithCertificate vs b H told text
   ends_with_certificate none told text written = record {
     certificate = cert_text (cert_of vs b v);
-    is = planned_text none;
-    only = λ other is. one_certificate_of vs b other (cert_text (cert_of vs b v)) is (planned_text none);
+    is = plan_text none;
+    only = λ other is. one_certificate_of vs b other (cert_text (cert_of vs b v)) is (plan_text none);
     written = written;
   }
 

@@ -9,7 +9,7 @@ use Rattle.srs_path.specs.Soundness.{IsSound}
 use Rattle.srs_tree.specs.declared.queries.Query.{Query}
 use Rattle.srs_tree.specs.Tree.{History, outcome_at, region_at, IsPartition}
 use Rattle.srs_tree.specs.Legality.{IsLegal}
-use Rattle.srs_tree.specs.Rounds.{IsPlan}
+use Rattle.srs_tree.specs.Rounds.{IsWhole, IsPlan}
 use Rattle.srs_tree.specs.Fits.{Fits}
 use Rattle.srs_tree.specs.declared.queries.Said.{Said}
 use Rattle.srs_tree.specs.declared.sessions.Segment.{Segment}
@@ -41,31 +41,41 @@ refusal_line line slip = codes "refused line " ++ signed_decimal (pos line) ++ c
 abbrev pub refused_long : List ℕ
 refused_long = codes "refused long\n"
 
--- H is the plan of the region. Its leaves partition the region, and what each outcome claims holds of its cell: inside,
--- each point is finite; outside, at each point the printed pair recurs; cut, the form divides the cell
+-- H is whole within the limits: the plan of the region, where no cell was left for want of memory. Its
+-- leaves partition the region, and what each outcome claims holds of its cell: inside, each point is
+-- finite; outside, at each point the printed pair recurs; cut, the form divides the cell
 pub record Decides (Root : Area) (b : Budget) (H : History) : Type 0 where
-  pub plan : IsPlan Root b H
+  pub whole : IsWhole Root b H
   pub partition : IsPartition Root (outcome_at H)
   pub sound : (e : Entry) → Contains H e → IsSound (region_at Root (outcome_at H) e.path) b.wits e.outcome
 
--- the text is the certificate of the polygon: it lists the plan of its region
+-- the text is the certificate of the plan of the polygon's region
+pub record IsPlanCertificateOf (vertices : List Vertex) (b : Budget) (text : List ℕ) : Type 0 where
+  pub history : History
+  pub plan : IsPlan (region_of vertices) b history
+  pub written : IsTextOf vertices b history text
+
+-- the text is a certificate of the polygon: it lists a history that decides its region, and is the
+-- certificate of the plan where no cell was left for want of memory
 pub record IsCertificateOf (vertices : List Vertex) (b : Budget) (text : List ℕ) : Type 0 where
   pub history : History
   pub decides : Decides (region_of vertices) b history
   pub written : IsTextOf vertices b history text
+  pub planned : HasNoMemory history → IsPlanCertificateOf vertices b text
 
--- the input is a polygon, and the output is its certificate
+-- the input is a polygon, and the output is a certificate of it
 pub record Certifies (b : Budget) (input output : List ℕ) : Type 0 where
   pub vertices : List Vertex
   pub polygon : SpellsPolygon input vertices
   pub certificate : IsCertificateOf vertices b output
 
--- the text of a live run ends with the one certificate of the polygon, which `certify` prints
+-- the text of a live run ends with the one certificate of the plan of the polygon's region, which
+-- `certify` prints where it leaves no cell for want of memory
 pub record EndsWithCertificate (vertices : List Vertex) (b : Budget) (H : History)
     (told : List (List Said)) (text : List ℕ) : Type 0 where
   pub certificate : List ℕ
-  pub is : IsCertificateOf vertices b certificate
-  pub only : (other : List ℕ) → IsCertificateOf vertices b other → other ≡ certificate
+  pub is : IsPlanCertificateOf vertices b certificate
+  pub only : (other : List ℕ) → IsPlanCertificateOf vertices b other → other ≡ certificate
   pub written : text ≡ before_certificate H told ++ certificate
 
 -- The text is that of a live run over the polygon, with a history that decides its region round by

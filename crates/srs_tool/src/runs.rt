@@ -1,4 +1,6 @@
 // Runs of `plain` and `run` over memory, for the tests of the commands.
+ghost use Rattle.std.specs.Prelude.{◌≤◌};
+
 use crate::plain::plain;
 use crate::run::run;
 use crate::status::Status;
@@ -34,8 +36,23 @@ pub(crate) fn failing(
     read: i64,
     write: i64,
 ) -> Result<Seen, Fail> {
+    plain_run(alloc, words, ends_of(alloc, input, u64::MAX, read, write)?)
+}
+
+/// The same, where a read and a write take one byte.
+pub(crate) fn failing_by_bytes(
+    alloc: Global,
+    words: &str,
+    input: &[u8],
+    read: i64,
+    write: i64,
+) -> Result<Seen, Fail> {
+    plain_run(alloc, words, ends_of(alloc, &[input], 1, read, write)?)
+}
+
+fn plain_run(alloc: Global, words: &str, ends: (MemSource, MemSink)) -> Result<Seen, Fail> {
     let words = words_of(alloc, words)?;
-    let (mut source, mut sink) = ends_of(alloc, input, read, write)?;
+    let (mut source, mut sink) = ends;
     let status = plain(alloc, words.as_slice(), &mut source, &mut sink);
     Ok(Seen {
         status,
@@ -62,7 +79,7 @@ pub(crate) fn failing_top<R: Threads + Wait + Sync>(
         rt,
         alloc,
         words,
-        ends_of(alloc, input, read, write)?,
+        ends_of(alloc, input, u64::MAX, read, write)?,
         &FreeGate,
     )
 }
@@ -85,7 +102,13 @@ pub(crate) fn gated_top<R: Threads + Wait + Sync, G: Gate>(
     input: &[&[u8]],
     gate: &G,
 ) -> Result<Seen, Fail> {
-    on_gate(rt, alloc, words, ends_of(alloc, input, NEVER, NEVER)?, gate)
+    on_gate(
+        rt,
+        alloc,
+        words,
+        ends_of(alloc, input, u64::MAX, NEVER, NEVER)?,
+        gate,
+    )
 }
 
 fn on_gate<R: Threads + Wait + Sync, G: Gate>(
@@ -105,13 +128,17 @@ fn on_gate<R: Threads + Wait + Sync, G: Gate>(
     })
 }
 
-// A source with this input, one read of which fails, and a sink, one write to which fails.
+// A source with this input, one read of which fails, and a sink, one write to which fails; each takes
+// so many bytes at most, which are at least 1.
 fn ends_of(
     alloc: Global,
     input: &[&[u8]],
+    most: u64,
     read: i64,
     write: i64,
-) -> Result<(MemSource, MemSink), Fail> {
+) -> Result<(MemSource, MemSink), Fail>
+    requires { 1 ≤ most }
+{
     let mut text = Bytes::new(alloc);
     for piece in input {
         text.extend(piece)?;
@@ -121,8 +148,8 @@ fn ends_of(
     let mut writes = Nums::new(alloc);
     writes.push(write)?;
     Ok((
-        MemSource::new(text, reads),
-        MemSink::new(alloc, ROOM, writes)?,
+        MemSource::cut(text, reads, most),
+        MemSink::cut(alloc, ROOM, writes, most)?,
     ))
 }
 
@@ -161,6 +188,24 @@ pub(crate) fn first_other_of(
 ) -> Result<Option<usize>, Fail> {
     for (i, (more, output)) in rows.iter().enumerate() {
         let seen = play(alloc, words, &[head.as_bytes(), more.as_bytes()])?;
+        if seen.status != status || seen.sink.bytes() != output.as_bytes() {
+            return Ok(Some(i));
+        }
+    }
+    Ok(None)
+}
+
+/// The same for runs of the top call.
+pub(crate) fn first_other_top_of<R: Threads + Wait + Sync>(
+    rt: &R,
+    alloc: Global,
+    words: &str,
+    head: &str,
+    rows: &[(&str, &str)],
+    status: Status,
+) -> Result<Option<usize>, Fail> {
+    for (i, (more, output)) in rows.iter().enumerate() {
+        let seen = play_top(rt, alloc, words, &[head.as_bytes(), more.as_bytes()])?;
         if seen.status != status || seen.sink.bytes() != output.as_bytes() {
             return Ok(Some(i));
         }

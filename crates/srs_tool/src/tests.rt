@@ -1,7 +1,7 @@
 // Runs over memory that aren't of one command: words in no form, ends that fail, a source that is too long, and the standard
 // streams.
 use crate::plain::plain;
-use crate::runs::{NEVER, failing, play};
+use crate::runs::{NEVER, failing, failing_by_bytes, play};
 use crate::status::Status;
 use srs_text::{StdSink, StdSource, write_all};
 use std::alloc::Global;
@@ -69,6 +69,65 @@ fn failing_ends(rt: HostRuntime) -> Result<(), Fail> {
     let second = failing(rt.alloc(), "certify 0 1 16", &[CYCLE_ONE], NEVER, 0)?;
     assert_eq!(rt; second.status, Status::WriteFault);
     assert!(rt; second.sink.bytes().is_empty());
+    Ok(())
+}
+
+// Runs whose ends take a byte at a time: the words, the input, and what is written.
+const BY_BYTES: [(&str, &str, &str); 2] = [
+    (
+        "certify 0 1 16",
+        "polygon 3\nge -2 -1 4\nge -1 -2 4\nge -1 -1 4\nend\n",
+        "srs 1\npolygon 3\nge -2 -1 4\nge -1 -2 4\nge -1 -1 4\nlimits 0 1 16\nout 1 1\nend\n",
+    ),
+    (
+        "certify 2 64 16",
+        "polygon 3\nge -1 0 8\nge 0 -1 8\nge 1 0 8\nend\n",
+        "srs 1\npolygon 3\nge -1 0 8\nge 0 -1 8\nge 1 0 8\nlimits 2 64 16\ncut 0 1 0\ncut 1 0 0\nin 5\nw -1 0 3\nw 0 -1 4\nw 0 0 0\nw 0 1 2\nw 1 0 1\nout 2 0 1\ncut 1 1 0\nin 9\nw -1 -1 5\nw -1 0 4\nw -1 1 3\nw 0 -1 5\nw 0 0 0\nw 0 1 3\nw 1 -1 5\nw 1 0 1\nw 1 1 2\nout 1 1\nend\n",
+    ),
+];
+
+// The first read whose failure isn't told, or after which something was written; none where each is
+// told. The last read finds the end.
+fn first_read_untold(alloc: Global, words: &str, input: &[u8]) -> Result<Option<usize>, Fail> {
+    for number in 0..input.len() + 1 {
+        let seen = failing_by_bytes(alloc, words, input, number as i64, NEVER)?;
+        if seen.status != Status::ReadFault || !seen.sink.bytes().is_empty() {
+            return Ok(Some(number));
+        }
+    }
+    Ok(None)
+}
+
+// The first write whose failure isn't told, or before which another front of the text was written;
+// none where each is told.
+fn first_write_untold(
+    alloc: Global,
+    words: &str,
+    input: &[u8],
+    text: &[u8],
+) -> Result<Option<usize>, Fail> {
+    for number in 0..text.len() {
+        let seen = failing_by_bytes(alloc, words, input, NEVER, number as i64)?;
+        if seen.status != Status::WriteFault || seen.sink.bytes() != &text[..number] {
+            return Ok(Some(number));
+        }
+    }
+    Ok(None)
+}
+
+#[test]
+fn each_read_and_write_fails(rt: HostRuntime) -> Result<(), Fail> {
+    let alloc = rt.alloc();
+    for (words, input, text) in &BY_BYTES {
+        assert_eq!(rt; first_read_untold(alloc, words, input.as_bytes())?, None);
+        assert_eq!(rt;
+            first_write_untold(alloc, words, input.as_bytes(), text.as_bytes())?,
+            None
+        );
+        let whole = failing_by_bytes(alloc, words, input.as_bytes(), NEVER, NEVER)?;
+        assert_eq!(rt; whole.status, Status::Done);
+        assert_eq!(rt; whole.sink.bytes(), text.as_bytes());
+    }
     Ok(())
 }
 
