@@ -20,3 +20,4 @@ pub mod Joining
 pub mod Counting
 pub mod Tightening
 pub mod Parting
+mod ShortDots

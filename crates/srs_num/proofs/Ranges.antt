@@ -1,5 +1,5 @@
 -- Magnitudes of sums, differences and products, and that they fit.
-use Rattle.std.proofs.Common.{ℕ, ◌+◌, ◌*◌, ◌^◌, ◌<◌, ◌≤◌, ℤ, pos, ◌+ℤ◌, ◌-ℤ◌, ◌*ℤ◌, neg_ℤ, ◌≤ℤ◌, unsigned_abs, FitsSigned, w64, arith, mul-le-mul, lit<}
+use Rattle.std.proofs.Common.{ℕ, ◌+◌, ◌-◌, ◌*◌, ◌^◌, ◌<◌, ◌≤◌, ℤ, pos, ◌+ℤ◌, ◌-ℤ◌, ◌*ℤ◌, neg_ℤ, ◌≤ℤ◌, unsigned_abs, FitsSigned, w64, arith, mul-le-mul, lit<}
 use Rattle.std.proofs.lemmas.Int.{ints, unsigned_abs-mul, fits_signed_from_abs}
 use Rattle.std.specs.Int.{w128, Width}
 use Rattle.srs_num.specs.Points.{IsWithin}
@@ -49,6 +49,44 @@ within_more z m n h k = omega arith
 
 pub small_fits : (w : Width) (z : ℤ) (m : ℕ) → IsWithin m z → m < 2 ^ hbits w → FitsSigned w z
 small_fits w z m h k = fits_signed_from_abs w z (omega arith)
+
+-- the value of a form at a point, step by step: the numbers of the form in 64 and in 128 bits, those
+-- of the point in 128 bits, and the products and their sum
+pub record DotSteps (a b c p q d : ℤ) : Type 0 where
+  pub a64 : FitsSigned w64 a
+  pub a128 : FitsSigned w128 a
+  pub b64 : FitsSigned w64 b
+  pub b128 : FitsSigned w128 b
+  pub c64 : FitsSigned w64 c
+  pub c128 : FitsSigned w128 c
+  pub p128 : FitsSigned w128 p
+  pub q128 : FitsSigned w128 q
+  pub d128 : FitsSigned w128 d
+  pub first : FitsSigned w128 (a *ℤ p)
+  pub second : FitsSigned w128 (b *ℤ q)
+  pub third : FitsSigned w128 (c *ℤ d)
+  pub two : FitsSigned w128 (a *ℤ p +ℤ b *ℤ q)
+  pub all : FitsSigned w128 (a *ℤ p +ℤ b *ℤ q +ℤ c *ℤ d)
+
+pub dot_steps : (a b c p q d : ℤ) → IsWithin (2 ^ 38) a → IsWithin (2 ^ 38) b → IsWithin (2 ^ 38) c → IsWithin (2 ^ 84 - 1) p → IsWithin (2 ^ 84 - 1) q → IsWithin (2 ^ 84 - 1) d → DotSteps a b c p q d
+dot_steps a b c p q d ha hb hc hp hq hd =
+    let fits = dot_fits a b c p q d (2 ^ 38) (2 ^ 84 - 1) ha hb hc hp hq hd (lit< tt) in
+    record {
+      a64 = small_fits w64 a (2 ^ 38) ha (lit< tt);
+      a128 = small_fits w128 a (2 ^ 38) ha (lit< tt);
+      b64 = small_fits w64 b (2 ^ 38) hb (lit< tt);
+      b128 = small_fits w128 b (2 ^ 38) hb (lit< tt);
+      c64 = small_fits w64 c (2 ^ 38) hc (lit< tt);
+      c128 = small_fits w128 c (2 ^ 38) hc (lit< tt);
+      p128 = small_fits w128 p (2 ^ 84 - 1) hp (lit< tt);
+      q128 = small_fits w128 q (2 ^ 84 - 1) hq (lit< tt);
+      d128 = small_fits w128 d (2 ^ 84 - 1) hd (lit< tt);
+      first = fits.first;
+      second = fits.second;
+      third = fits.third;
+      two = fits.two;
+      all = fits.all;
+    }
 
 -- a difference of two products of numbers of a form, in 128 bits
 pub record MinorFits (a b c d : ℤ) : Type 0 where
