@@ -46,16 +46,16 @@ may_later G H h n b may = record {
 }
 
 module _ (Root : Area) (G H : History) (b : Begins G H) where
-  same_tree : (h : Heard) → IsHeardIn G h → tree_heard G h ≡ tree_heard H h
-  same_tree h in_g = ap outcome_at (sym (take_begins h.version G H b in_g.version))
+  heard_tree : (h : Heard) → IsHeardIn G h → tree_heard G h ≡ tree_heard H h
+  heard_tree h in_g = ap outcome_at (sym (take_begins h.version G H b in_g.version))
 
   tells_one_later : (h after : Heard) (query : Query) (said : Said) → IsHeardIn G h → Tells Root G h query said after → Tells Root H h query said after
   tells_one_later h after Fresh said in_g t = (t.0, may_later G H h t.0 b t.1, t.2, t.3)
   tells_one_later h after Count said in_g t = (t.0, may_later G H h t.0 b t.1, t.2, t.3)
   tells_one_later h after (Point r) said in_g t =
-      (t.0, subst (λ (T : Tree). Answers Root T r t.0) (same_tree h in_g) t.1, t.2, t.3)
+      (t.0, subst (λ (T : Tree). Answers Root T r t.0) (heard_tree h in_g) t.1, t.2, t.3)
   tells_one_later h after (Polygon q) said in_g t =
-      (t.0, subst (λ (T : Tree). IsMet Root T q t.0) (same_tree h in_g) t.1, t.2, t.3)
+      (t.0, subst (λ (T : Tree). IsMet Root T q t.0) (heard_tree h in_g) t.1, t.2, t.3)
   tells_one_later h after (Orbit r z n) said in_g t = t
 
 -- a question leaves what was heard within the history
