@@ -7,14 +7,10 @@ use Rattle.std.proofs.Math.Nat.{le_refl}
 use Rattle.std.proofs.Math.Seq.{take-append-add}
 use Rattle.std.proofs.lemmas.List.{take-append-le, take_all}
 use Rattle.std.proofs.lemmas.List.Elements.{Contains-append_left, Contains-append_cases, All-from_recursion}
-use Rattle.srs_map.specs.Orbits.{IsOrbitEnd}
-use Rattle.srs_map.specs.declared.orbits.OrbitEnd.{OrbitEnd}
 use Rattle.srs_plane.specs.Regions.{Area}
 use Rattle.srs_turn.specs.Prefixes.{Begins}
 use Rattle.srs_tree.specs.Tree.{History, Tree, outcome_at}
 use Rattle.srs_tree.specs.Answers.{Answers, IsMet}
-use Rattle.srs_tree.specs.declared.answers.Reply.{Reply}
-use Rattle.srs_tree.specs.declared.answers.Met.{Met}
 use Rattle.srs_tree.specs.declared.queries.Query.{Query}
 use Rattle.srs_tree.specs.declared.queries.Query.TheVariants.{Fresh, Count, Point, Polygon, Orbit}
 use Rattle.srs_tree.specs.declared.queries.Said.{Said}

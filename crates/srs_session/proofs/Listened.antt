@@ -1,5 +1,5 @@
 -- One question more is answered.
-use Rattle.std.proofs.Common.{◌≡◌, ℕ, ◌+◌, ◌≤◌, List, [], ◌∷◌, ◌++◌, length, take, refl, sym, ap, ap₂, subst, ◌∙◌, arith}
+use Rattle.std.proofs.Common.{◌≡◌, ℕ, ◌+◌, ◌≤◌, List, [], ◌∷◌, ◌++◌, length, take, refl, sym, ap, subst, ◌∙◌, arith}
 use Rattle.std.specs.Prelude.{slice_get, Some}
 use Rattle.std.specs.FinMap as finite
 use Rattle.std.proofs.Math.Nat.{le_refl}
@@ -25,7 +25,7 @@ use Rattle.srs_tree.specs.declared.sessions.Segment.{Segment}
 use Rattle.srs_tree.specs.Fits.{Heard, taken, tree_heard, MayBeSaid, Tells, TellsAll, TellsSegment}
 use Rattle.srs_atlas.proofs.Entries.{same_tree}
 use Rattle.srs_session.specs.Playing.{IsPlayed}
-use Rattle.srs_session.specs.Listening.{IsHeardIn, IsHeld, IsAnswered, first_of, IsPlayedTo}
+use Rattle.srs_session.specs.Listening.{IsHeld, IsAnswered, first_of, IsPlayedTo}
 use Rattle.srs_session.proofs.Fitting.{begins_length, take_begins, tells_later, played_by}
 
 -- a version that stands for the whole history is that of its number
@@ -33,11 +33,13 @@ newest_held : (Root : Area) (H : History) (w : Snapshot) (n : ℕ) → StandsFor
 newest_held Root H w n stands is =
     let number : n ≡ length H = is ∙ stands.count in
     let l : n ≤ length H = omega (arith, number) in
-    let all : take n H ≡ H = take_all n H (omega (arith, number)) in
-    (number, record {
-      within = record { version = l; most = l };
-      stands = subst (λ (K : History). StandsFor Root K w) (sym all) stands;
-    })
+    let all : take n H ≡ H = take_all n H (omega (arith, number)) in (
+      number,
+      record {
+        within = record { version = l; most = l };
+        stands = subst (λ (K : History). StandsFor Root K w) (sym all) stands;
+      },
+    )
 
 module _ (Root : Area) (G H : History) (b : Begins G H) (heard : Heard) (v : Snapshot) (held : IsHeld Root G heard v) where
   -- the version held stays that of its number
