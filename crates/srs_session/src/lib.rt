@@ -2,7 +2,9 @@
 #![tactic(auto)]
 
 mod gate;
-mod play;
+mod playing;
+mod sharing;
 
 pub use gate::{FreeGate, Gate};
-pub use play::play;
+pub use playing::play;
+pub use sharing::shared;
