@@ -9,3 +9,5 @@ mod gates;
 mod levels;
 #[cfg(test)]
 mod runs;
+#[cfg(test)]
+mod scripts;
