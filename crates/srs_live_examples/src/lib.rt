@@ -11,3 +11,5 @@ mod levels;
 mod runs;
 #[cfg(test)]
 mod scripts;
+#[cfg(test)]
+mod sessions;
