@@ -39,7 +39,15 @@ fn first_where_held<R: Threads + Wait + Sync>(
         last: Some(Last::Depth),
         workers: 2,
     };
-    level(rt, alloc, &atlas, &mut pass, &third, &script, &Holding::of(held))?;
+    level(
+        rt,
+        alloc,
+        &atlas,
+        &mut pass,
+        &third,
+        &script,
+        &Holding::of(held),
+    )?;
     let (version, journal) = atlas.finish(rt, pass);
     if version.count() != 7 || journal.len() != 7 {
         Err("there are seven cells")?;

@@ -99,7 +99,15 @@ fn shapes_of_level<R: Threads + Wait + Sync>(
         last: None,
         workers,
     };
-    let told = level(rt, alloc, &atlas, &mut pass, &job, &script(alloc)?, &FreeGate)?;
+    let told = level(
+        rt,
+        alloc,
+        &atlas,
+        &mut pass,
+        &job,
+        &script(alloc)?,
+        &FreeGate,
+    )?;
     if told.len() != 3 || atlas.newest(&mut pass) != 1 {
         Err("there are three sessions")?;
     }
