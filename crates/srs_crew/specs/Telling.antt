@@ -8,6 +8,7 @@ use Rattle.srs_turn.specs.Prefixes.{Begins}
 use Rattle.srs_tree.specs.Tree.{History}
 use Rattle.srs_tree.specs.Legality.{IsLegal}
 use Rattle.srs_tree.specs.Fits.{Heard, nothing_heard, TellsSession}
+use Rattle.srs_tree.specs.Sessions.{AreAscending}
 use Rattle.srs_tree.specs.declared.queries.Said.{Said}
 use Rattle.srs_tree.specs.declared.sessions.Segment.{Segment}
 use Rattle.srs_session.specs.Playing.{IsPlayed}
@@ -46,9 +47,10 @@ pub record IsToldFirst (Root : Area) (H : History) (n : ℕ) (session : List Seg
 abbrev pub IsToldAll : Area → History → List Segment → List Said → Type 0
 IsToldAll Root H session told = IsToldFirst Root H (length session) session told
 
--- of its segments of rounds before k
+-- of its segments of rounds before k, which ascend
 pub record IsToldBelow (Root : Area) (H : History) (k : ℕ) (session : List Segment)
     (told : List Said) : Type 0 where
+  pub ascending : AreAscending session
   pub number : ℕ
   pub early : AreEarly k number session
   pub first : IsToldFirst Root H number session told

@@ -4,12 +4,12 @@ ghost use Rattle.srs_turn.specs.Prefixes.{Begins};
 ghost use Rattle.srs_turn.specs.Passes.{IsPassOf};
 ghost use Rattle.srs_tree.specs.Rounds.{AreRowsDone};
 ghost use Rattle.srs_atlas.specs.Books.{IsLawful};
-ghost use Rattle.srs_crew.specs.Rounds.{AreAllDone};
+ghost use Rattle.srs_crew.specs.Rounds.{AreAllDone, WasAllDone};
 ghost use Rattle.srs_crew.specs.Telling.{AreToldBelow};
 ghost use Rattle.srs_crew.specs.Runs.{IsRun};
 
 use crate::rounds::{Job, level};
-use crate::transcripts::{ByRounds, transcripts};
+use crate::transcripts::{ByRounds, no_round, transcripts};
 use srs_atlas::{Atlas, AtlasPass};
 use srs_cell::Cell;
 use srs_num::NoMemory;
@@ -38,7 +38,7 @@ pub fn run_levels<R: Threads + Wait + Sync, G: Gate>(
     ensures { IfOk result (IsRun cell limits script.now) }
 {
     let (atlas, mut pass) = Atlas::start_plan(rt, alloc, cell, limits)?;
-    let mut told = ByRounds::new(alloc);
+    let mut told = no_round(alloc, script);
     let rounds = all_rounds(
         rt, alloc, &atlas, &mut pass, &limits, workers, script, &mut told, gate,
     )?;
@@ -68,9 +68,9 @@ fn all_rounds<R: Threads + Wait + Sync, G: Gate>(
     requires lawful { IsLawful atlas.now.fixed pass.old.seen }
     requires workers { (1 ≤ workers) × (workers ≤ 16) }
     requires plan { atlas.now.fixed.plan ≡ Some limits.now }
-    requires first { told.old ≡ [] }
+    requires none { AreToldBelow atlas.now.fixed.root pass.old.seen 0 script.now told.old }
     ensures own { IsPassOf atlas.now pass.new }
-    ensures all { OnOk result (AreAllDone pass.new.seen) }
+    ensures all { OnOk result (WasAllDone pass.new.seen) }
     ensures told { IfOk result (λ rounds.
         AreToldBelow atlas.now.fixed.root pass.new.seen rounds script.now told.new) }
 {

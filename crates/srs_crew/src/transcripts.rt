@@ -1,9 +1,10 @@
 // What each session was told in all.
-ghost use Rattle.std.specs.Prelude.{◌≡◌, ◌<◌, ◌++◌, ℕ, List, length, slice_get, Some, IfOk, OnOk};
+ghost use Rattle.std.specs.Prelude.{◌≡◌, ◌<◌, [], ◌++◌, ℕ, List, length, slice_get, Some, IfOk, OnOk};
+ghost use Rattle.srs_plane.specs.Regions.{Area};
 ghost use Rattle.srs_turn.specs.Prefixes.{Begins};
 ghost use Rattle.srs_turn.specs.Passes.{IsPassOf};
 ghost use Rattle.srs_tree.specs.declared.queries.Said.{Said};
-ghost use Rattle.srs_crew.specs.Rounds.{AreAllDone};
+ghost use Rattle.srs_crew.specs.Rounds.{WasAllDone};
 ghost use Rattle.srs_crew.specs.Telling.{IsToldBelow, IsToldAll};
 ghost use Rattle.srs_crew.specs.Telling.{AreToldBelow, AreToldFirst, told_to};
 
@@ -17,6 +18,17 @@ use std::sync::Wait;
 
 // What the sessions were told in each round, seen as the list of these.
 pub(crate) type ByRounds = Items<Transcripts>;
+
+// No round yet.
+pub(crate) fn no_round(alloc: Global, script: &Script) -> ByRounds
+    ensures { (Root : Area) → AreToldBelow Root [] 0 script.now result }
+{
+    // The segments of each session ascend.
+    for i in 0..script.len() {
+        let _ = script.get(i).len();
+    }
+    ByRounds::new(alloc)
+}
 
 // The same. An `Err` is want of memory.
 fn copy(alloc: Global, said: &Said) -> Result<Said, NoMemory>
@@ -73,7 +85,7 @@ fn transcript<R: Wait, G: Gate>(
     gate: &G,
 ) -> Result<Transcript, NoMemory>
     requires own { IsPassOf atlas.now pass.old }
-    requires done { AreAllDone pass.old.seen }
+    requires done { WasAllDone pass.old.seen }
     requires below { IsToldBelow atlas.now.fixed.root pass.old.seen round session.now before }
     ensures own { IsPassOf atlas.now pass.new }
     ensures seen { Begins pass.old.seen pass.new.seen }
@@ -100,7 +112,7 @@ pub(crate) fn transcripts<R: Wait, G: Gate>(
     gate: &G,
 ) -> Result<Transcripts, NoMemory>
     requires own { IsPassOf atlas.now pass.old }
-    requires done { AreAllDone pass.old.seen }
+    requires done { WasAllDone pass.old.seen }
     requires below { AreToldBelow atlas.now.fixed.root pass.old.seen round script.now told.now }
     ensures own { IsPassOf atlas.now pass.new }
     ensures seen { Begins pass.old.seen pass.new.seen }
