@@ -5,6 +5,7 @@ use Rattle.std.specs.declared.result.Result.{Result}
 use Rattle.std.specs.declared.result.Result.TheVariants.{Ok}
 use Rattle.std.specs.declared.option.Option.TheVariants.{Some}
 use Rattle.std.proofs.Math.Decide.{dec_lt}
+use Rattle.std.proofs.Math.ListN.{get_or-append}
 use Rattle.std.proofs.Math.Seq.{take-suc}
 use Rattle.std.proofs.lemmas.List.{take_all}
 use Rattle.std.proofs.lemmas.Option.{none-some, slice_get_within, slice_get_read, slice_get_cases, slice_get-get_or, get_or_from_slice_get}
@@ -297,7 +298,9 @@ module _ (Root : Area) where
   }
     where
       earlier : (i : ℕ) (it : List Said) → i < n → slice_get (told ++ one ∷ []) i ≡ Some it → slice_get told i ≡ Some it
-      earlier i it l h = ?
+      earlier i it l h =
+          let m : i < length told = let as_many = f.as_many in omega (arith, l, as_many) in
+          slice_get_read told (length told) i it refl m (sym (get_or_from_slice_get (told ++ one ∷ []) i it it h) ∙ get_or-append told (one ∷ []) it i m)
 
       last_is : (i : ℕ) (it : List Said) → i ≡ n → slice_get (told ++ one ∷ []) i ≡ Some it → it ≡ one
       last_is i it e h = elim (snoc_get told one it i h) as (λ _. it ≡ one) [
