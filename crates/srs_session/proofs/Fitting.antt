@@ -26,6 +26,7 @@ use Rattle.srs_tree.specs.Rounds.{AreRowsDone}
 use Rattle.srs_tree.specs.Fits.{Heard, taken, tree_heard, MayBeSaid, Tells, TellsAll, TellsSegment, HoldsRows, ComesAfterRows}
 use Rattle.srs_tree.proofs.PlannedWhole.{later_all}
 use Rattle.srs_session.specs.Playing.{IsPlayed}
+use Rattle.srs_session.specs.Listening.{IsHeardIn}
 
 -- a beginning is no longer
 pub begins_length : {E : Type 0} (xs ys : List E) → Begins xs ys → length xs ≤ length ys
@@ -34,11 +35,6 @@ begins_length xs ys b = omega (arith, ap length b.1, length-append xs b.0)
 -- the first entries of a beginning
 pub take_begins : {E : Type 0} (n : ℕ) (xs ys : List E) → Begins xs ys → n ≤ length xs → take n ys ≡ take n xs
 take_begins n xs ys b l = ap (take n) b.1 ∙ take-append-le n xs b.0 l
-
--- what was heard is no later than the history
-pub record IsHeardIn (H : History) (h : Heard) : Type 0 where
-  pub version : h.version ≤ length H
-  pub most : h.most ≤ length H
 
 taken_in : (H : History) (n : ℕ) → n ≤ length H → IsHeardIn H (taken n)
 taken_in H n l = record { version = l; most = l }

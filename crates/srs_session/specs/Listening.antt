@@ -13,17 +13,17 @@ pub record IsHeardIn (H : History) (heard : Heard) : Type 0 where
   pub version : heard.version ≤ length H
   pub most : heard.most ≤ length H
 
--- the version held is the one that was taken last
-pub record IsHeld (Root : Area) (H : History) (heard : Heard) (held : Snapshot) : Type 0 where
+-- v is the version that was taken last
+pub record IsHeld (Root : Area) (H : History) (heard : Heard) (v : Snapshot) : Type 0 where
   pub within : IsHeardIn H heard
-  pub stands : StandsFor Root (take heard.version H) held
+  pub stands : StandsFor Root (take heard.version H) v
 
 -- the question was answered while the history grew to H and another version may have been taken
 pub record IsAnswered (Root : Area) (H : History) (heard : Heard) (query : Query) (said : Said)
-    (held : Snapshot) : Type 0 where
+    (v : Snapshot) : Type 0 where
   pub next : Heard
   pub tells : Tells Root H heard query said next
-  pub held : IsHeld Root H next held
+  pub held : IsHeld Root H next v
 
 -- the segment with its first i questions alone
 abbrev pub first_of : Segment → ℕ → Segment
@@ -31,7 +31,7 @@ first_of s i = record { at = s.at; queries = take i s.queries }
 
 -- the first i questions were answered while the history grew from `before` to `now`
 pub record IsPlayedTo (Root : Area) (before now : History) (s : Segment) (i : ℕ)
-    (told : List Said) (held : Snapshot) : Type 0 where
+    (told : List Said) (v : Snapshot) : Type 0 where
   pub heard : Heard
   pub tells : TellsSegment Root now (taken (length before)) (first_of s i) told heard
-  pub held : IsHeld Root now heard held
+  pub held : IsHeld Root now heard v

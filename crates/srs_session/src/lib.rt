@@ -2,7 +2,7 @@
 #![tactic(auto)]
 
 mod gate;
-mod play;
+mod playing;
 
 pub use gate::{FreeGate, Gate};
-pub use play::play;
+pub use playing::play;
