@@ -119,8 +119,24 @@ pub(crate) fn crew_and_sessions<R: Threads + Wait + Sync, G: Gate>(
     let who = FIRST_SESSION + (n - 1) as u32;
     let (first, second) = join(
         rt,
-        move || { crew_and_sessions(rt, atlas, shift, pass, seat, script, gate, n - 1) },
-        move || { listen(rt, alloc, atlas, other, who, segment, gate) },
+        move ||
+            requires work { MayWork atlas.now shift.now pass seat }
+            requires workers { (1 ≤ shift.now.workers) ×
+                (shift.now.workers ≤ seat.spare + 1) × IsSync R.row }
+            requires within { n - 1 ≤ length script.now }
+            ensures own { IsPassOf atlas.entry.now result.0 }
+            ensures seen { Begins pass.seen result.0.seen }
+            ensures told { IfOk result.1
+                (AreToldIn atlas.entry.now.fixed.root pass.seen result.0.seen
+                shift.entry.now.round (take (n - 1) script.entry.now)) }
+        { crew_and_sessions(rt, atlas, shift, pass, seat, script, gate, n - 1) },
+        move ||
+            requires { IsPassOf atlas.now other }
+            ensures own { IsPassOf atlas.entry.now result.0 }
+            ensures seen { Begins other.seen result.0.seen }
+            ensures told { IfOk result.1
+                (IsPlayed atlas.entry.now.fixed.root other.seen result.0.seen segment.entry.now) }
+        { listen(rt, alloc, atlas, other, who, segment, gate) },
     );
     let (mut pass, told) = first;
     let (other, one) = second;
