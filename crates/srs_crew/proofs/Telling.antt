@@ -38,10 +38,22 @@ module _ {X : Type 0} where
 
   pub take_next : (xs : List X) (i : ℕ) (x : X) → slice_get xs i ≡ Some x → take (i + 1) xs ≡ take i xs ++ x ∷ []
   take_next xs i x g =
-      ap (λ (n : ℕ). take n xs) (omega arith) ∙ take-suc xs i x (slice_get_within xs i x g) ∙ ap (λ (y : X). take i xs ++ y ∷ []) (get_or_from_slice_get xs i x x g)
+      let next : i + 1 ≡ suc i = omega arith in
+      ap (λ (n : ℕ). take n xs) next ∙ take-suc xs i x (slice_get_within xs i x g) ∙ ap (λ (y : X). take i xs ++ y ∷ []) (get_or_from_slice_get xs i x x g)
 
   same_at : (xs : List X) (i : ℕ) (x y : X) → slice_get xs i ≡ Some x → slice_get xs i ≡ Some y → x ≡ y
   same_at xs i x y g h = let e : Some x ≡ Some y = sym g ∙ h in cc
+
+  -- what holds of the first elements, and of the next one
+  pub first_ones : (P : X → Type 0) (xs : List X) (i : ℕ) (x : X) → slice_get xs i ≡ Some x → P x → ((j : ℕ) (y : X) → slice_get xs j ≡ Some y → j < i → P y)
+      → (j : ℕ) (y : X) → slice_get xs j ≡ Some y → j < i + 1 → P y
+  first_ones P xs i x g p all j y h l = elim (dec_lt j i) as (λ _. P y) [
+    | yes m ↦ all j y h m
+    | no m ↦
+        let e : j ≡ i = omega (arith, l, m) in
+        let same : x ≡ y = same_at xs i x y g (ap (slice_get xs) (sym e) ∙ h) in
+        subst P same p
+  ]
 
 -- the rounds of a session's segments
 module _ (session : List Segment) where
@@ -49,6 +61,40 @@ module _ (session : List Segment) where
   ascends up i j s t g h l =
       let below = up i j s l (slice_get_within session j t h) in
       omega (arith, below, ap (λ (x : Segment). x.at) (get_or_from_slice_get session i s s g), ap (λ (x : Segment). x.at) (get_or_from_slice_get session j t s h))
+
+  -- the first segment that isn't of a round before k, and none
+  pub early_here : AreAscending session → (k i : ℕ) (s : Segment) → ((j : ℕ) (t : Segment) → slice_get session j ≡ Some t → j < i → t.at < k) → slice_get session i ≡ Some s → k ≤ s.at → AreEarly k i session
+  early_here up k i s before g at = record {
+    within = let w = slice_get_within session i s g in omega (arith, w);
+    before = before;
+    later = λ j t h l. elim (dec_lt i j) as (λ _. k ≤ t.at) [
+      | yes m ↦ let a = ascends up i j s t g h m in omega (arith, a, at)
+      | no m ↦
+          let e : j ≡ i = omega (arith, l, m) in
+          let same : s ≡ t = same_at session i s t g (ap (slice_get session) (sym e) ∙ h) in
+          omega (arith, at, ap (λ (x : Segment). x.at) same)
+    ];
+  }
+
+  pub early_end : (k i : ℕ) → length session ≡ i → ((j : ℕ) (t : Segment) → slice_get session j ≡ Some t → j < i → t.at < k) → AreEarly k i session
+  early_end k i end before = record {
+    within = omega (arith, end);
+    before = before;
+    later = λ j t h l. absurd (let w = slice_get_within session j t h in omega (arith, w, end, l));
+  }
+
+  -- where the first segment behind those of rounds before k isn't of round k, none is
+  pub none_at : AreAscending session → (k n : ℕ) → AreEarly k n session → ((s : Segment) → slice_get session n ≡ Some s → s.at ≢ k) → (s : Segment) → Contains session s → s.at ≢ k
+  none_at up k n early here s c at =
+      let place = place_of session s c in
+      let low : place.0 < n → ⊥ = λ l. let b = early.before place.0 s place.1 l in omega (arith, b, at) in
+      let high : n < place.0 → ⊥ = λ l.
+      let there : slice_get session n ≡ Some (get_or session n s) = slice_get-get_or session n s (let w = slice_get_within session place.0 s place.1 in omega (arith, w, l)) in
+      let a = ascends up n place.0 (get_or session n s) s there place.1 l in
+      let b = early.later n (get_or session n s) there (omega arith) in
+      omega (arith, a, b, at) in
+      let e : place.0 ≡ n = omega (arith, low, high) in
+      here s (ap (slice_get session) (sym e) ∙ place.1) at
 
   -- two counts of the segments of rounds before k are one
   no_more : (k n m : ℕ) → AreEarly k n session → AreEarly k m session → n < m → ⊥
@@ -174,7 +220,8 @@ module _ (Root : Area) where
         → 1 ≤ n → slice_get script (n - 1) ≡ Some session → IsOneMore told one all
         → IfOk told (AreToldIn Root before after k (take (n - 1) script)) → IfOk one (IsToldIn Root before after k session) → AreToldIn Root before after k (take n script) all
     told_one_more script n session told one all some g m t last =
-        let is : take n script ≡ take (n - 1) script ++ session ∷ [] = ap (λ (j : ℕ). take j script) (omega (arith, some)) ∙ take_next script (n - 1) session g in
+        let next : n ≡ (n - 1) + 1 = omega (arith, some) in
+        let is : take n script ≡ take (n - 1) script ++ session ∷ [] = ap (λ (j : ℕ). take j script) next ∙ take_next script (n - 1) session g in
         let u : AreToldIn Root before after k (take (n - 1) script) m.before = subst (λ (r : Result (List (List Said)) NoMemory). IfOk r (AreToldIn Root before after k (take (n - 1) script))) m.first_found t in
         let v : IsToldIn Root before after k session m.last = subst (λ (r : Result (List Said) NoMemory). IfOk r (IsToldIn Root before after k session)) m.last_found last in
         subst (λ (xs : List (List Segment)). AreToldIn Root before after k xs all) (sym is)
@@ -248,7 +295,7 @@ module _ (Root : Area) where
     each = λ i session g. below_none session (up i session g);
   }
 
-  told_to_snoc : (i : ℕ) (rounds : List (List (List Said))) (round : List (List Said)) → told_to i (rounds ++ round ∷ []) ≡ told_to i rounds ++ get_or round i []
+  pub told_to_snoc : (i : ℕ) (rounds : List (List (List Said))) (round : List (List Said)) → told_to i (rounds ++ round ∷ []) ≡ told_to i rounds ++ get_or round i []
   told_to_snoc i [] round = append-nil (get_or round i [])
   told_to_snoc i (first ∷ rounds) round =
       ap (λ (l : List Said). get_or first i [] ++ l) (told_to_snoc i rounds round) ∙ sym (append_assoc (get_or first i []) (told_to i rounds) (get_or round i []))
