@@ -1,3 +1,4 @@
 pub mod Working
 pub mod Running
 pub mod Crossing
+pub mod Telling

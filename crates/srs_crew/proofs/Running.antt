@@ -1,5 +1,5 @@
 -- Round after round.
-use Rattle.std.proofs.Common.{◌≡◌, ℕ, ◌+◌, ◌<◌, ◌≤◌, ◌==◌, List, [], length, take, drop, sym, ap₂, subst, ◌∙◌, arith}
+use Rattle.std.proofs.Common.{◌≡◌, ℕ, suc, ◌+◌, ◌<◌, ◌≤◌, ◌==◌, List, [], length, take, drop, sym, ap₂, subst, ◌∙◌, arith}
 use Rattle.std.proofs.lemmas.List.{take-append-drop, length-take-le}
 use Rattle.std.proofs.lemmas.Bool.Decides.{Decides-eqb}
 use Rattle.std.specs.Prelude.{IsSome}
@@ -16,6 +16,8 @@ use Rattle.srs_turn.proofs.PrefixLemmas.{begins_trans}
 use Rattle.srs_tree.specs.Tree.{History, outcome_at, IsCellOf}
 use Rattle.srs_tree.specs.Legality.{IsLegal}
 use Rattle.srs_tree.specs.declared.queries.Said.{Said}
+use Rattle.srs_tree.specs.declared.sessions.Segment.{Segment}
+use Rattle.srs_tree.specs.Fits.{Fits}
 use Rattle.srs_tree.specs.Rounds.{cells_of, upto, row_of, IsPlanned, AreRowsDone}
 use Rattle.srs_tree.specs.Snapshots.{Snapshot, StandsFor}
 use Rattle.srs_tree.proofs.Bounded.{last_at_depth, upto_within, depth_within, by_planned, count_some}
@@ -38,6 +40,10 @@ rows_none H = record { each = λ path cell l. absurd (omega (arith, l)) }
 pub rows_later : (Root : Area) (W : ℕ) (G H : History) (k : ℕ) → Begins G H → IsLegal Root W H → AreRowsDone G k → Closed H k
 rows_later Root W G H k b legal rows =
     subst (λ (K : History). Closed K k) (sym b.1) (closed_stays Root W G b.0 k (subst (IsLegal Root W) b.1 legal) rows.each)
+
+-- all cells that are done are those of each row
+pub all_rows : (H : History) (k : ℕ) → AreAllDone H → AreRowsDone H k
+all_rows H k done = record { each = λ path cell _. done.each path cell }
 
 module _ (terms : Terms) (L : Budget) (plan : terms.plan ≡ Some L) (budget : IsBudget L) where
   pub plan_round : (G S : History) (k : ℕ) (n : Counts) (last : Option Last) → AreRowsDone G k → Begins G S → IsLawful terms S → AreCounts S k n → last ≡ last_of L k n.cells n.row
@@ -73,19 +79,25 @@ module _ (terms : Terms) (L : Budget) (plan : terms.plan ≡ Some L) (budget : I
       ]
 
 module _ (terms : Terms) (L : Budget) (plan : terms.plan ≡ Some L) where
-  -- where the rows down to the greatest depth are done, the history is whole
-  pub ran : (S J : History) (v : Snapshot) (told : List (List Said)) (Root : Area) → told ≡ [] → Root ≡ terms.root → AreRowsDone S (L.depth + 1) → Begins S J → IsLawful terms J → StandsFor terms.root J v → IsRun Root L (record { version = v; journal = J; transcripts = told })
-  ran S J v told Root untold e rows b lawful stands =
+  -- where all cells were done, the history is whole
+  pub ran : (S J : History) (v : Snapshot) (script : List (List Segment)) (told : List (List Said)) (Root : Area) → Fits terms.root J script told → Root ≡ terms.root → AreAllDone S → Begins S J → IsLawful terms J → StandsFor terms.root J v
+      → IsRun Root L script (record { version = v; journal = J; transcripts = told })
+  ran S J v script told Root fits e done b lawful stands =
       let planned : IsPlanned terms.root L J = lawful.planned L plan in
       let each : (path : List Side) → IsCellOf (outcome_at J) path → IsSome (outcome_at J path) = λ path cell.
-      let l = depth_within terms.root L J (by_planned terms.root L J planned) path cell in
-      rows_later terms.root terms.w S J (L.depth + 1) b lawful.legal rows path cell (omega (arith, l)) in
-      subst (λ (R : Area). IsRun R L (record { version = v; journal = J; transcripts = told })) (sym e) (record {
+      rows_later terms.root terms.w S J (suc (length path)) b lawful.legal (all_rows S (suc (length path)) done) path cell (omega arith) in
+      subst (λ (R : Area). IsRun R L script (record { version = v; journal = J; transcripts = told })) (sym e) (record {
         whole = IsWhole-planned terms.root L J planned each;
         in_rounds = IsInRounds-planned terms.root L J planned;
         stands = stands;
-        untold = untold;
+        fits = fits;
       })
+
+  -- where the rows down to the greatest depth are done, all cells are done
+  pub deepest : (S : History) → IsLawful terms S → AreRowsDone S (L.depth + 1) → AreAllDone S
+  deepest S lawful rows = record {
+    each = λ path cell. rows.each path cell (let l = depth_within terms.root L S (by_planned terms.root L S (lawful.planned L plan)) path cell in omega (arith, l));
+  }
 
 -- where no cell is of round k and the rows above it are done, all cells have their events
 pub none_left : (Root : Area) (W : ℕ) (H : History) (k : ℕ) → IsLegal Root W H → row_of H k ≡ 0 → AreRowsDone H k → AreAllDone H
@@ -106,7 +118,3 @@ none_left Root W H k legal none rows = record { each = each }
 pub none_now : (terms : Terms) (G S : History) (k : ℕ) (n : Counts) → AreRowsDone G k → Begins G S → IsLawful terms S → AreCounts S k n → n.row ≡ 0 → AreAllDone S
 none_now terms G S k n rows b lawful counts none =
     none_left terms.root terms.w S k lawful.legal (sym counts.row ∙ none) (record { each = rows_later terms.root terms.w G S k b lawful.legal rows })
-
--- all cells that are done are those of each row
-pub all_rows : (H : History) (k : ℕ) → AreAllDone H → AreRowsDone H k
-all_rows H k done = record { each = λ path cell _. done.each path cell }

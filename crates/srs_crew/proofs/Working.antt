@@ -124,7 +124,7 @@ pub by_done : (terms : Terms) (before after : History) (path : List Side) (f : F
 by_done terms before after path f n a = subst (λ (K : History). IsSome (outcome_at K path)) (sym a.1) (subst IsSome (sym (outcome_there before (event_at path f.outcome) a.0.is_open.open_yet)) refl)
 
 -- a list that takes a cell at its end
-snoc_get : (xs : List WaitingCell) (c d : WaitingCell) (i : ℕ) → slice_get (xs ++ c ∷ []) i ≡ Some d → (slice_get xs i ≡ Some d) ⊎ (d ≡ c)
+pub snoc_get : {X : Type 0} (xs : List X) (c d : X) (i : ℕ) → slice_get (xs ++ c ∷ []) i ≡ Some d → (slice_get xs i ≡ Some d) ⊎ (d ≡ c)
 snoc_get [] c d zero g = inr (cc)
 snoc_get [] c d (suc i) g = absurd (none-some d g)
 snoc_get (x ∷ xs) c d zero g = inl g

@@ -110,3 +110,7 @@ pub record AreDone (cells : List WaitingCell) (i k : ℕ) (seen : History) : Typ
 -- each cell of H has its event
 pub record AreAllDone (H : History) : Type 0 where
   pub each : (path : List Side) → IsCellOf (outcome_at H) path → IsSome (outcome_at H path)
+
+-- at some beginning of H each cell had its event
+abbrev pub WasAllDone : History → Type 0
+WasAllDone H = (start : History) × Begins start H × AreAllDone start

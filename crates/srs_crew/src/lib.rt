@@ -4,7 +4,9 @@
 mod cells;
 mod rounds;
 mod runs;
+mod sessions;
 mod single;
+mod transcripts;
 mod workers;
 
 pub use rounds::{Job, level};

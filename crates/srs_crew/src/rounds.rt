@@ -1,20 +1,23 @@
 // One round.
-ghost use Rattle.std.specs.Prelude.{◌≡◌, ◌<◌, ◌≤◌, length, OnOk, None};
+ghost use Rattle.std.specs.Prelude.{◌≡◌, ◌<◌, ◌≤◌, length, IfOk, OnOk, None};
 ghost use Rattle.srs_turn.specs.Prefixes.{Begins};
 ghost use Rattle.srs_turn.specs.Passes.{IsPassOf};
 ghost use Rattle.srs_atlas.specs.Books.{IsLawful, waiting_in};
 ghost use Rattle.srs_crew.specs.Rounds.{IsRound, AreWork, AreDone};
 ghost use Rattle.srs_crew.specs.Rounds.{MayStart, WasPlanRound, IsJobDone};
+ghost use Rattle.srs_crew.specs.Telling.{AreToldIn};
 
 use crate::cells::of_round;
+use crate::sessions::crew_and_sessions;
 use crate::single::settle;
-use crate::workers::{Shift, crew};
+use crate::workers::Shift;
 use srs_atlas::{Atlas, AtlasPass, PendingList};
 use srs_claim::Claims;
 use srs_num::NoMemory;
 use srs_path::Last;
 use srs_refine::Refiner;
 use srs_session::{FreeGate, Gate};
+use srs_tree::{Script, Transcripts};
 use std::alloc::Global;
 use std::sync::Wait;
 use std::thread::Threads;
@@ -30,16 +33,19 @@ pub struct Job {
 
 /// Refines the cells of the round, by 1 to 16 workers beside each other: each cell of the round
 /// that waited when the call began has then an event, and with a plan each cell of the round. Each
-/// worker calls the gate before each commit. An `Err` is want of memory; the history is lawful then
-/// too.
+/// worker calls the gate before each commit. Beside the workers each session that has a segment at
+/// this round is played by a thread of its own, which calls the gate as 101 and its place. The
+/// transcripts are in the order of the sessions, and empty where there is no such segment. An `Err`
+/// is want of memory; the history is lawful then too.
 pub fn level<R: Threads + Wait + Sync, G: Gate>(
     rt: &R,
     alloc: Global,
     atlas: &Atlas,
     pass: &mut AtlasPass,
     job: &Job,
+    script: &Script,
     gate: &G,
-) -> Result<(), NoMemory>
+) -> Result<Transcripts, NoMemory>
     requires own { IsPassOf atlas.now pass.old }
     requires workers { (1 ≤ job.now.workers) × (job.now.workers ≤ 16) }
     requires room { job.now.last ≡ None → job.now.round < 48 }
@@ -48,15 +54,18 @@ pub fn level<R: Threads + Wait + Sync, G: Gate>(
     ensures seen { Begins pass.old.seen pass.new.seen }
     ensures lawful { IsLawful atlas.now.fixed pass.new.seen }
     ensures done { OnOk result (IsJobDone atlas.now.fixed job.now pass.old.seen pass.new.seen) }
+    ensures told { IfOk result
+        (AreToldIn atlas.now.fixed.root pass.old.seen pass.new.seen job.now.round script.now) }
 {
     let waiting = atlas.pending(rt, alloc, pass)?;
     let cells = of_round(alloc, &waiting, job.round)?;
-    beside(rt, alloc, atlas, pass, cells, job, gate)?;
-    rest(rt, alloc, atlas, pass, job)
+    let told = beside(rt, alloc, atlas, pass, cells, job, script, gate);
+    // What a session has seen is known to be lawful only by another step under the turn.
+    rest(rt, alloc, atlas, pass, job)?;
+    told
 }
 
-#[tactic(auto, using(crate::proofs::Working::lawful_longer))]
-// Workers draw from the cells. An `Err` is want of memory.
+// Workers draw from the cells, and sessions are played. An `Err` is want of memory.
 fn beside<R: Threads + Wait + Sync, G: Gate>(
     rt: &R,
     alloc: Global,
@@ -64,8 +73,9 @@ fn beside<R: Threads + Wait + Sync, G: Gate>(
     pass: &mut AtlasPass,
     cells: PendingList,
     job: &Job,
+    script: &Script,
     gate: &G,
-) -> Result<(), NoMemory>
+) -> Result<Transcripts, NoMemory>
     requires own { IsPassOf atlas.now pass.old }
     requires workers { (1 ≤ job.now.workers) × (job.now.workers ≤ 16) }
     requires few { length cells ≤ 65536 }
@@ -73,7 +83,8 @@ fn beside<R: Threads + Wait + Sync, G: Gate>(
     requires work { AreWork atlas.now.fixed pass.old.seen job.now.last cells }
     ensures own { IsPassOf atlas.now pass.new }
     ensures seen { Begins pass.old.seen pass.new.seen }
-    ensures lawful { IsLawful atlas.now.fixed pass.new.seen }
+    ensures told { IfOk result
+        (AreToldIn atlas.now.fixed.root pass.old.seen pass.new.seen job.now.round script.now) }
 {
     let Ok((claims, seat)) = Claims::new(alloc, cells.len(), job.workers as u64) else {
         return Err(NoMemory);
@@ -84,10 +95,21 @@ fn beside<R: Threads + Wait + Sync, G: Gate>(
         cells,
         last: job.last,
         claims,
+        round: job.round,
+        workers: job.workers,
     };
-    let (back, _seat) = crew(rt, atlas, &shift, first, seat, gate, job.workers);
+    let (back, told) = crew_and_sessions(
+        rt,
+        atlas,
+        &shift,
+        first,
+        seat,
+        script,
+        gate,
+        script.len(),
+    );
     atlas.join_pass(pass, back);
-    Ok(())
+    told
 }
 
 // Settles the cells of the round that still wait. An `Err` is want of memory.

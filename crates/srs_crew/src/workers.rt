@@ -13,15 +13,17 @@ use std::alloc::Global;
 use std::sync::Wait;
 use std::thread::{Threads, join};
 
-// What the workers of a round share beside the atlas: the cells, the limit that is spent for them,
-// and the claims on their places. It borrows nothing, so that the closures of `crew` can say what
-// they give back.
+// What the threads of a round share beside the atlas: the cells, the limit that is spent for them,
+// the claims on their places, which round it is, and how many workers there are. It borrows
+// nothing, so that the closures of `crew` can say what they give back.
 #[derive(Drop)]
 pub(crate) struct Shift {
     pub alloc: Global,
     pub cells: PendingList,
     pub last: Option<Last>,
     pub claims: Claims,
+    pub round: u32,
+    pub workers: u32,
 }
 
 #[tactic(auto, using(srs_turn::proofs::PrefixLemmas::begins_refl))]

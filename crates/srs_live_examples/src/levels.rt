@@ -7,6 +7,7 @@ use srs_atlas::Atlas;
 use srs_crew::{Job, level};
 use srs_path::{Last, Path, Side};
 use srs_session::FreeGate;
+use srs_tree::Script;
 use std::alloc::Global;
 use std::sync::Wait;
 use std::test::Fail;
@@ -25,19 +26,28 @@ fn first_where_held<R: Threads + Wait + Sync>(
         last: None,
         workers: 1,
     };
-    level(rt, alloc, &atlas, &mut pass, &first, &FreeGate)?;
+    let script = Script::new(alloc);
+    level(rt, alloc, &atlas, &mut pass, &first, &script, &FreeGate)?;
     let second = Job {
         round: 1,
         last: None,
         workers: 1,
     };
-    level(rt, alloc, &atlas, &mut pass, &second, &FreeGate)?;
+    level(rt, alloc, &atlas, &mut pass, &second, &script, &FreeGate)?;
     let third = Job {
         round: 2,
         last: Some(Last::Depth),
         workers: 2,
     };
-    level(rt, alloc, &atlas, &mut pass, &third, &Holding::of(held))?;
+    level(
+        rt,
+        alloc,
+        &atlas,
+        &mut pass,
+        &third,
+        &script,
+        &Holding::of(held),
+    )?;
     let (version, journal) = atlas.finish(rt, pass);
     if version.count() != 7 || journal.len() != 7 {
         Err("there are seven cells")?;

@@ -10,4 +10,6 @@ mod levels;
 #[cfg(test)]
 mod runs;
 #[cfg(test)]
+mod scripts;
+#[cfg(test)]
 mod sessions;

@@ -6,7 +6,7 @@ use srs_crew::run_levels;
 use srs_path::Limits;
 use srs_rounds::rounds;
 use srs_session::FreeGate;
-use srs_tree::{Journal, Version};
+use srs_tree::{Journal, Script, Version};
 use std::alloc::Global;
 use std::sync::Wait;
 use std::test::Fail;
@@ -24,7 +24,15 @@ fn events_of_run<R: Threads + Wait + Sync>(
 {
     let plan = rounds(alloc, cell_of(alloc, polygon)?, &limits)?;
     let cell = cell_of(alloc, polygon)?;
-    let run = run_levels(rt, alloc, cell, limits, workers, &FreeGate)?;
+    let run = run_levels(
+        rt,
+        alloc,
+        cell,
+        limits,
+        workers,
+        &Script::new(alloc),
+        &FreeGate,
+    )?;
     if run.transcripts.len() > 0 || !is_in_rounds(&run.journal) {
         Err("the events come in rounds")?;
     }
