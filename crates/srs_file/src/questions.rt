@@ -63,6 +63,20 @@ impl Questions {
         Err(LineErr::Slip(Slip::Word, 0))
     }
 
+    /// Takes the next line in a session, where `fresh` and `count` ask too. An `Err` may leave any questions.
+    pub fn take_in_session(&mut self, line: &[u8]) -> Result<(), LineErr>
+        ensures ok { OnOk result (TakesInSession self.old line.now self.new) }
+        ensures err { IfErr result (IsSlip (SlipsInSession self.old line.now)) }
+    {
+        if self.wants_more() {
+            return self.take(line);
+        }
+        match asked_by_word(line) {
+            Some(query) => self.ask(query),
+            None => self.take(line),
+        }
+    }
+
     fn vertex(&mut self, line: &[u8]) -> Result<(), LineErr>
         requires { 0 < self.old.ring.left }
         ensures ok { OnOk result (StepsVertex self.old line.now self.new) }
@@ -126,6 +140,20 @@ impl Questions {
         };
         Ok(())
     }
+}
+
+// The question that the line asks by its one word.
+fn asked_by_word(line: &[u8]) -> Option<Query>
+    ensures some { IfSome result (AsksByWord line.now) }
+    ensures none { IfNone result ((query : Asked) → AsksByWord line.now query → ⊥) }
+{
+    if line == b"fresh".as_slice() {
+        return Some(Query::Fresh);
+    }
+    if line == b"count".as_slice() {
+        return Some(Query::Count);
+    }
+    None
 }
 
 // Reads the line of a point that is asked about.
