@@ -23,7 +23,7 @@ pub use outline::Outline;
 pub use polygon_reader::{PolygonReader, one_polygon, read_polygon};
 pub use questions::Questions;
 pub use ring::Ring;
-pub use session_lines::{Open, SessionLines};
+pub use session_lines::{SessionLines, Stage};
 pub use srs_cert::{Cert, word_of};
 pub use srs_line::{FileErr, Slip};
 pub use tree::Tree;

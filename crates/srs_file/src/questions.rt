@@ -3,12 +3,13 @@ ghost use Rattle.std.specs.Prelude.{◌≡◌, ◌≢◌, ◌↔◌, ◌<◌, �
 ghost use Rattle.srs_num.specs.declared.pairs.V2.{V2};
 ghost use Rattle.srs_num.specs.Points.{Point};
 ghost use Rattle.srs_plane.specs.Polygons.{region_of};
+ghost use Rattle.srs_tree.specs.declared.queries.Query.{Query as Asked};
 ghost use Rattle.srs_tree.specs.declared.queries.Query.TheVariants.{Polygon};
 ghost use Rattle.srs_line.specs.Refusal.{IsSlip};
 ghost use Rattle.srs_file.specs.Ring.{IsFull, no_ring, IsOpenSlip, SlipsVertex};
 ghost use Rattle.srs_file.specs.Questions.{orbit_numbers};
 ghost use Rattle.srs_tree.specs.Questions.{IsOrbitAsked, IsAskable};
-ghost use Rattle.srs_file.specs.QuestionReading.{no_questions, AddsQuery, SaysPlace, IsPlaceSlip, SaysOrbit, IsOrbitSlip, StepsPoint, StepsRegion, StepsOrbit, StepsVertex, TakesQuestion, SlipsQuestion};
+ghost use Rattle.srs_file.specs.QuestionReading.{no_questions, AddsQuery, SaysPlace, IsPlaceSlip, SaysOrbit, IsOrbitSlip, StepsPoint, StepsRegion, StepsOrbit, StepsVertex, TakesQuestion, SlipsQuestion, AsksByWord, TakesInSession, SlipsInSession};
 
 use crate::Ring;
 use crate::polygon_reader::inhabited;

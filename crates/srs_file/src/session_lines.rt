@@ -1,11 +1,8 @@
 // Sessions, read line by line.
-ghost use Rattle.std.specs.Prelude.{◌≡◌, ◌≢◌, ◌↔◌, ◌<◌, ◌++◌, [], ◌∷◌, IsTrue, IfOk, IfErr, OnOk, codes, length};
-ghost use Rattle.std.specs.List.{All};
+ghost use Rattle.std.specs.Prelude.{◌≡◌, ◌↔◌, ◌<◌, [], IsTrue, IfOk, IfErr, OnOk};
 ghost use Rattle.srs_line.specs.Refusal.{IsSlip};
-ghost use Rattle.srs_tree.specs.declared.sessions.Segment.{Segment};
-ghost use Rattle.srs_tree.specs.Sessions.{AreAscending};
 ghost use Rattle.srs_file.specs.QuestionReading.{no_questions};
-ghost use Rattle.srs_file.specs.SessionReading.{no_sessions, IsBegun, IsLater, SaysRound, IsRoundSlip, segments_of, closed, IsFree, StepsSession, StepsAt, StepsBehind, TakesSession, SlipsOpening, SlipsBehind, SlipsSession};
+ghost use Rattle.srs_file.specs.SessionReading.{no_sessions, IsBegun, IsLater, SaysRound, IsRoundSlip, segments_of, closed, StepsSession, SlipsNinth, StepsAt, StepsBehind, TakesSession, SlipsBehind, SlipsSession};
 
 use crate::Questions;
 use srs_line::{LineErr, Slip, count_of, has_word};
@@ -17,20 +14,20 @@ use std::mem;
 /// What is open while sessions are read: nothing before the first of them, a session that has no segment, or a session
 /// with a segment behind this round.
 #[derive(Clone, Copy)]
-pub enum Open {
+pub enum Stage {
     Nothing,
     Session,
     At(u32),
 }
 
-impl Open {
+impl Stage {
     /// Whether a session is open.
     pub fn is_begun(self) -> bool
         ensures { IsTrue result ↔ IsBegun self }
     {
         match self {
-            Open::Nothing => false,
-            Open::Session | Open::At(_) => true,
+            Stage::Nothing => false,
+            Stage::Session | Stage::At(_) => true,
         }
     }
 
@@ -39,9 +36,9 @@ impl Open {
         ensures { IsTrue result ↔ IsLater self round }
     {
         match self {
-            Open::Nothing => false,
-            Open::Session => true,
-            Open::At(last) => last < round,
+            Stage::Nothing => false,
+            Stage::Session => true,
+            Stage::At(last) => last < round,
         }
     }
 }
@@ -52,7 +49,7 @@ impl Open {
 pub struct SessionLines {
     alloc: Global,
     script: Script,
-    open: Open,
+    stage: Stage,
     segments: Session,
     questions: Questions,
 }
@@ -62,9 +59,9 @@ impl Model for SessionLines {
 
     ghost Value = { SessionsView };
 
-    ghost view = { λ s. record { script = s.script; open = s.open; segments = s.segments; questions = s.questions } };
+    ghost view = { λ s. record { script = s.script; stage = s.stage; segments = s.segments; questions = s.questions } };
 
-    ghost invariant = { λ s. IsOpenFit s.open s.script s.segments };
+    ghost invariant = { λ s. IsOpenFit s.stage s.script s.segments };
 }
 
 impl SessionLines {
@@ -75,7 +72,7 @@ impl SessionLines {
         SessionLines {
             alloc,
             script: Script::new(alloc),
-            open: Open::Nothing,
+            stage: Stage::Nothing,
             segments: Session::new(alloc),
             questions: Questions::new(alloc),
         }
@@ -100,7 +97,7 @@ impl SessionLines {
         if line == b"session".as_slice() {
             return self.session();
         }
-        if self.open.is_begun() && has_word(line, b"at") {
+        if self.stage.is_begun() && has_word(line, b"at") {
             return self.at(line);
         }
         self.behind(line)
@@ -109,26 +106,26 @@ impl SessionLines {
     // The line `session`.
     fn session(&mut self) -> Result<(), LineErr>
         ensures ok { OnOk result (StepsSession self.old self.new) }
-        ensures err { IfErr result (IsSlip (SlipsSessions self.old)) }
+        ensures err { IfErr result (IsSlip (SlipsNinth self.old)) }
     {
         self.close()?;
         if self.script.len() >= 8 {
             return Err(LineErr::Slip(Slip::Count, 0));
         }
-        self.open = Open::Session;
+        self.stage = Stage::Session;
         Ok(())
     }
 
     // A line of a round, in an open session.
     fn at(&mut self, line: &[u8]) -> Result<(), LineErr>
-        requires { IsBegun self.old.open }
+        requires { IsBegun self.old.stage }
         ensures ok { OnOk result (StepsAt self.old line.now self.new) }
         ensures err { IfErr result
-            (IsSlip (λ slip back. IsRoundSlip self.old.open line.now slip × (back ≡ 0))) }
+            (IsSlip (λ slip back. IsRoundSlip self.old.stage line.now slip × (back ≡ 0))) }
     {
-        let round = round(self.open, line)?;
+        let round = round(self.stage, line)?;
         self.segments = self.take_segments()?;
-        self.open = Open::At(round);
+        self.stage = Stage::At(round);
         Ok(())
     }
 
@@ -137,9 +134,9 @@ impl SessionLines {
         ensures ok { OnOk result (StepsBehind self.old line.now self.new) }
         ensures err { IfErr result (IsSlip (SlipsBehind self.old line.now)) }
     {
-        match self.open {
-            Open::At(_) => self.questions.take_in_session(line),
-            Open::Nothing | Open::Session => Err(LineErr::Slip(Slip::Word, 0)),
+        match self.stage {
+            Stage::At(_) => self.questions.take_in_session(line),
+            Stage::Nothing | Stage::Session => Err(LineErr::Slip(Slip::Word, 0)),
         }
     }
 
@@ -149,12 +146,12 @@ impl SessionLines {
         ensures err { IfErr result (IsSlip (λ slip back. ⊥)) }
     {
         let segments = self.take_segments()?;
-        if self.open.is_begun() {
+        if self.stage.is_begun() {
             let Ok(()) = self.script.push(segments) else {
                 return Err(LineErr::NoMemory);
             };
         }
-        self.open = Open::Nothing;
+        self.stage = Stage::Nothing;
         Ok(())
     }
 
@@ -167,7 +164,7 @@ impl SessionLines {
     {
         let mut segments = mem::replace(&mut self.segments, Session::new(self.alloc));
         let queries = mem::replace(&mut self.questions, Questions::new(self.alloc)).queries;
-        if let Open::At(at) = self.open {
+        if let Stage::At(at) = self.stage {
             let Ok(()) = segments.push(Segment { at, queries }) else {
                 return Err(LineErr::NoMemory);
             };
@@ -184,12 +181,12 @@ impl SessionLines {
 }
 
 // Reads the line of the round of a segment that follows in the open session.
-fn round(open: Open, line: &[u8]) -> Result<u32, Slip>
-    ensures ok { IfOk result (λ round. SaysRound open round line.now) }
-    ensures err { IfErr result (IsRoundSlip open line.now) }
+fn round(stage: Stage, line: &[u8]) -> Result<u32, Slip>
+    ensures ok { IfOk result (λ round. SaysRound stage round line.now) }
+    ensures err { IfErr result (IsRoundSlip stage line.now) }
 {
     let round = count_of(line, b"at", 0, 99, Slip::Range)?;
-    if !open.is_before(round) {
+    if !stage.is_before(round) {
         return Err(Slip::Order);
     }
     Ok(round)
