@@ -60,7 +60,7 @@ round_decided (At round) = inl tt
 later_decided : (stage : Stage) (round : ℕ) → Decided (IsLater stage round)
 later_decided Nothing round = inr (λ b. b)
 later_decided Session round = inl tt
-later_decided (At last) round = le_decided (last + 1) round
+later_decided (At last) round = elim (le_decided (last + 1) round) [ inl h ↦ inl (omega (arith, h)) | inr h ↦ inr (λ l. h (omega (arith, l))) ]
 
 says_decided : (stage : Stage) (line : List ℕ) → ((round : ℕ) × SaysRound stage round line) ⊎ ((slip : Slip) × IsRoundSlip stage line slip)
 says_decided stage line =
@@ -105,7 +105,7 @@ more_than n h = omega (arith, h)
 opens_session : (s : SessionsView) (line : List ℕ) → IsOpening s line → Goes (TakesSession s line) (SlipsSession s line)
 opens_session s line (free, inl e) =
     elim (le_decided (length (script_of s) + 1) 8) [
-      | inl few ↦ inl (record (closed s) { stage = Session }, inl (free, e, (few, refl)))
+      | inl few ↦ inl (record (closed s) { stage = Session }, inl (free, e, (omega (arith, few), refl)))
       | inr many ↦ inr (slips.Count, 0, inl (free, e, (more_than (length (script_of s)) many, refl, refl)))
     ]
 opens_session s line (free, inr (begun, w)) =
@@ -130,7 +130,7 @@ in_session_keeps s t line g (inr (zero, query, asks, e)) = rw e g
 
 session_keeps : (s t : SessionsView) (line : List ℕ) → IsGrowing s.questions.ring.left s.questions.ring.vertices → TakesSession s line t
     → IsGrowing t.questions.ring.left t.questions.ring.vertices
-session_keeps s t line g (inl (free, e, few, f)) = rw f no_ring_grows
+session_keeps s t line g (inl (free, e, (few, f))) = rw f no_ring_grows
 session_keeps s t line g (inr (inl (free, begun, w, (n, p, f)))) = rw f no_ring_grows
 session_keeps s t line g (inr (inr (round, q, p, f))) = rw f (in_session_keeps s.questions q line g p)
 

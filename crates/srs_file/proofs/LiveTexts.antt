@@ -58,12 +58,11 @@ at_end : (s : LiveReader) (text : List ℕ) → IsWholeOutline s.outline → s.s
 at_end s text whole free was =
     let full = was.fine whole in
     let all = script_spelled s.sessions was.behind free was.of_behind in
-    let text_is : text ++ ended (codes "end") ≡ ring_text s.outline.ring.vertices ++ (was.behind ++ ended (codes "end")) =
-    rw (was.text_is, whole_text s.outline whole) (append_assoc (ring_text s.outline.ring.vertices) was.behind (ended (codes "end"))) in
-    (record { polygon = full.0; few = all.1; sessions = was.behind; of_sessions = all.0; whole = text_is }, full)
+    let text_is : text ≡ ring_text s.outline.ring.vertices ++ was.behind = was.text_is ∙ ap (λ x. x ++ was.behind) (whole_text s.outline whole) in
+    (record { polygon = full.0; few = all.1; sessions = was.behind; of_sessions = all.0; whole = ap (λ x. x ++ ended (codes "end")) text_is }, full)
 
 step_text : (s t : LiveReader) (line text : List ℕ) → LiveSteps s line t → IsTextOf s text → IsTextOf t (text ++ ended line)
-step_text s t line text (still, p) (inr (end, was)) = absurd (still end)
+step_text s t line text (still, p) (inr (end, spells, full)) = absurd (still end)
 step_text s t line text (still, inl (more, outline, p, e)) (inl (so, was)) = rw e (inl (still, in_polygon s outline line text more p was))
 step_text s t line text (still, inr (whole, inl (sessions, p, e))) (inl (so, was)) = rw e (inl (still, in_sessions s sessions line text whole p was))
 step_text s t line text (still, inr (whole, inr (here, e))) (inl (so, was)) = let all = at_end s text whole here.0 was in rw (e, here.1) (inr (refl, all.0, all.1))
@@ -93,18 +92,18 @@ read_is_live text last (count, reaches, end) =
     let whole : text ≡ lines_text reaches.lines = reaches.whole ∙ append-nil (lines_text reaches.lines) in
     elim (runs_text live_start last reaches.lines [] reaches.good start_text) [
       | inl before ↦ absurd (before.0 end)
-      | inr done ↦ rw whole done.1
+      | inr done ↦ rw whole (done.1, done.2)
     ]
 
 polygon_leads : (vs : List Vertex) → IsPolygon vs → Leads OutlineSteps no_outline (ring_text vs) (whole_outline vs)
 polygon_leads vs polygon =
     let all = append-nil (outline_lines vs) in
-    let spelled : lines_text (outline_lines vs) ≡ ring_text vs = rw all at (joined_outline vs []) ∙ append-nil (ring_text vs) in
+    let spelled : lines_text (outline_lines vs) ≡ ring_text vs = ap lines_text (sym all) ∙ joined_outline vs [] ∙ append-nil (ring_text vs) in
     record { lines = outline_lines vs; spelled = spelled; runs = outline_runs vs polygon }
 
 pub live_is_read : (text : List ℕ) (vs : List Vertex) (script : List (List Segment)) → SpellsLive text vs script → ReadsAsLive text vs script
 live_is_read text vs script s =
-    let (t, sessions, free, all) = sessions_lead no_sessions s.sessions script refl s.few s.of_sessions in
+    let (t, sessions, free, all) = sessions_lead no_sessions s.sessions script refl (let few = s.few in omega (arith, few)) s.of_sessions in
     let last : LiveReader = record { outline = whole_outline vs; sessions = closed t; ended = true } in
     let first = leads_inside OutlineSteps LiveSteps with_outline (λ o u line q. (not_ended (with_outline o) refl, inl (q.0, u, q.1, refl))) no_outline (whole_outline vs) (ring_text vs) (polygon_leads vs s.polygon) in
     let then = leads_inside TakesSession LiveSteps (with_sessions vs) (λ x u line q. (not_ended (with_sessions vs x) refl, inr ((refl, refl), inl (u, q, refl)))) no_sessions t s.sessions sessions in
@@ -113,8 +112,8 @@ live_is_read text vs script s =
       spelled = append-nil (ended (codes "end"));
       runs = (last, (not_ended (with_sessions vs t) refl, inr ((refl, refl), inr ((free, refl), refl))), end_no_lf, refl);
     } in
-    let behind = leads_on LiveSteps (with_sessions vs no_sessions) (with_sessions vs t) last s.sessions (ended (codes "end")) then end in
-    let whole = leads_on LiveSteps live_start (with_sessions vs no_sessions) last (ring_text vs) (s.sessions ++ ended (codes "end")) first behind in
+    let front = leads_on LiveSteps live_start (with_sessions vs no_sessions) (with_sessions vs t) (ring_text vs) s.sessions first then in
+    let whole = leads_on LiveSteps live_start (with_sessions vs t) last (ring_text vs ++ s.sessions) (ended (codes "end")) front end in
     let text_is : text ≡ lines_text whole.lines ++ [] = s.whole ∙ sym whole.spelled ∙ sym (append-nil (lines_text whole.lines)) in
     (last, (length whole.lines, record { lines = whole.lines; count_is = refl; whole = text_is; good = whole.runs }, refl), refl, all)
 

@@ -104,13 +104,14 @@ begun_after : (whole behind line : List ℕ) (text : List ℕ) → text ≡ whol
 begun_after whole behind line text e = rw e (append_assoc whole behind (ended line))
 
 pub session_grows : (s t : SessionsView) (line text : List ℕ) → TakesSession s line t → IsScriptText s text → IsScriptText t (text ++ ended line)
-session_grows s t line text (inl (free, e, few, f)) was =
+session_grows s t line text (inl (free, e, (few, f))) was =
     let all = script_spelled s text free was in
     rw (f, e) (record { whole = text; of_whole = all.0; behind = ended (codes "session"); of_behind = refl; few = all.1; fit = (few, refl); ascending = none_ascend; text_is = refl })
 session_grows s t line text (inr (inl (free, begun, w, (round, says, f)))) was =
     let one = session_spelled s.stage s.script s.segments s.questions was.behind free begun was.of_behind was.fit was.ascending in
     let line_is : ended line ≡ count_text (codes "at") round = ap ended (said_is (codes "at") (pos round ∷ []) line says.0.2).0 in
-    let here : was.behind ++ ended line ≡ (ended (codes "session") ++ one.segments) ++ (count_text (codes "at") round ++ []) = rw (one.whole, line_is, append-nil (count_text (codes "at") round)) refl in
+    let here : was.behind ++ ended line ≡ (ended (codes "session") ++ one.segments) ++ (count_text (codes "at") round ++ []) =
+    ap (λ x. x ++ ended line) one.whole ∙ ap (λ x. (ended (codes "session") ++ one.segments) ++ x) (line_is ∙ sym (append-nil (count_text (codes "at") round))) in
     rw f (record {
       whole = was.whole;
       of_whole = was.of_whole;

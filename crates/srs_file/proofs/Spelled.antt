@@ -5,6 +5,10 @@ use Rattle.std.proofs.lemmas.List.Concat.{flat_map-append}
 use Rattle.std.proofs.lemmas.List.Elements.{All-push, All-head, All-tail}
 use Rattle.std.proofs.lemmas.List.Kept.{AllPairs-cons}
 use Rattle.srs_line.specs.Machine.{lines_text, Runs}
+use Rattle.srs_line.specs.declared.slip.Slip.{Slip}
+use Rattle.srs_line.specs.declared.slip.LineErr.{LineErr}
+use Rattle.srs_line.specs.declared.slip.LineErr.TheVariants as lines
+use Rattle.srs_line.specs.Refusal.{IsSlip}
 use Rattle.srs_line.proofs.MachineLemmas.{runs_append, runs_inside}
 use Rattle.srs_file.specs.Scripts.{SpellsAll}
 
@@ -45,3 +49,8 @@ leads_on Steps s t u text more a b = record {
 pub leads_inside : {S T : Type 0} (Steps : S → List ℕ → S → Type 0) (Outer : T → List ℕ → T → Type 0) (f : S → T)
     → ((x u : S) (line : List ℕ) → Steps x line u → Outer (f x) line (f u)) → (s t : S) (text : List ℕ) → Leads Steps s text t → Leads Outer (f s) text (f t)
 leads_inside Steps Outer f step s t text a = record { lines = a.lines; spelled = a.spelled; runs = runs_inside Steps Outer f step s t a.lines a.runs }
+
+-- what is wrong with a line stays so where less is asked
+pub slip_weaker : (P Q : Slip → ℕ → Type 0) → ((slip : Slip) (back : ℕ) → P slip back → Q slip back) → (e : LineErr) → IsSlip P e → IsSlip Q e
+slip_weaker P Q f (lines.Slip slip back) p = f slip back p
+slip_weaker P Q f lines.NoMemory p = tt

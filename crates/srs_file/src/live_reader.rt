@@ -1,5 +1,5 @@
 // Reads the input of `live`: a polygon, and sessions.
-ghost use Rattle.std.specs.Prelude.{List, ℕ, ◌≡◌, ◌≢◌, ◌+◌, ◌^◌, ◌<◌, OnOk, IfOk, IfErr, length};
+ghost use Rattle.std.specs.Prelude.{List, ℕ, ◌≡◌, ◌+◌, ◌^◌, ◌<◌, ◌↔◌, IsTrue, OnOk, IfOk, IfErr, length};
 ghost use Rattle.srs_plane.specs.declared.polygons.Vertex.{Vertex};
 ghost use Rattle.srs_plane.specs.Polygons.{region_of};
 ghost use Rattle.srs_tree.specs.declared.sessions.Segment.{Segment};
@@ -41,6 +41,13 @@ impl LiveReader {
         }
     }
 
+    // Whether the line is the one behind the last session.
+    fn ends_with(&self, line: &[u8]) -> bool
+        ensures { IsTrue result ↔ SessionsEnd self.now line.now }
+    {
+        !self.sessions.wants_more() && line == b"end".as_slice()
+    }
+
     // Takes a line behind the polygon.
     fn session(&mut self, line: &[u8]) -> Result<(), LineErr>
         ensures ok { OnOk result (StepsInSessions self.old line.now self.new) }
@@ -49,7 +56,7 @@ impl LiveReader {
             (λ slip back. (¬ (SessionsEnd self.old line.now)) ×
             SlipsSession self.old.sessions line.now slip back)) }
     {
-        if !self.sessions.wants_more() && line == b"end".as_slice() {
+        if self.ends_with(line) {
             self.sessions.close()?;
             self.ended = true;
             return Ok(());

@@ -1,5 +1,6 @@
 // Sessions, read line by line.
-ghost use Rattle.std.specs.Prelude.{◌≡◌, ◌↔◌, ◌<◌, [], IsTrue, IfOk, IfErr, OnOk};
+ghost use Rattle.std.specs.Prelude.{◌≡◌, ◌↔◌, ◌<◌, [], IsTrue, IfOk, IfErr, OnOk, codes};
+ghost use Rattle.srs_line.specs.Fields.{HasWord};
 ghost use Rattle.srs_line.specs.Refusal.{IsSlip};
 ghost use Rattle.srs_file.specs.QuestionReading.{no_questions};
 ghost use Rattle.srs_file.specs.SessionReading.{no_sessions, IsBegun, IsLater, SaysRound, IsRoundSlip, segments_of, closed, StepsSession, SlipsNinth, StepsAt, StepsBehind, TakesSession, SlipsBehind, SlipsSession};
@@ -97,10 +98,17 @@ impl SessionLines {
         if line == b"session".as_slice() {
             return self.session();
         }
-        if self.stage.is_begun() && has_word(line, b"at") {
+        if self.has_round(line) {
             return self.at(line);
         }
         self.behind(line)
+    }
+
+    // Whether a session is open, and the line is one of a round.
+    fn has_round(&self, line: &[u8]) -> bool
+        ensures { IsTrue result ↔ (IsBegun self.now.stage × HasWord (codes "at") line.now) }
+    {
+        self.stage.is_begun() && has_word(line, b"at")
     }
 
     // The line `session`.
@@ -165,6 +173,8 @@ impl SessionLines {
         let mut segments = mem::replace(&mut self.segments, Session::new(self.alloc));
         let queries = mem::replace(&mut self.questions, Questions::new(self.alloc)).queries;
         if let Stage::At(at) = self.stage {
+            // Each round so far is above those before it.
+            let _ = segments.len();
             let Ok(()) = segments.push(Segment { at, queries }) else {
                 return Err(LineErr::NoMemory);
             };
