@@ -32,3 +32,5 @@ pub mod LiveDecided
 pub mod SessionTexts
 pub mod SessionRuns
 pub mod LiveTexts
+pub mod SaidLaws
+pub mod LiveLaws
