@@ -71,7 +71,7 @@ orbit_decided line =
     ]
 
 -- the question is put at the end
-asks : (s : Questions) (query : Query) → (t : Questions) × AddsQuery s query t
+pub asks : (s : Questions) (query : Query) → (t : Questions) × AddsQuery s query t
 asks s query = (record s { queries = s.queries ++ query ∷ [] }, refl)
 
 question_decided : (s : Questions) (line : List ℕ) → Goes (StepsQuestion s line) (SlipsAsked line)
@@ -107,7 +107,7 @@ corner_decided s g more line =
       | inr f ↦ inr (f.0, f.1, inl (more, f.2))
     ]
 
-takes_decided : (s : Questions) → IsGrowing s.ring.left s.ring.vertices → (line : List ℕ) → Goes (TakesQuestion s line) (SlipsQuestion s line)
+pub takes_decided : (s : Questions) → IsGrowing s.ring.left s.ring.vertices → (line : List ℕ) → Goes (TakesQuestion s line) (SlipsQuestion s line)
 takes_decided s g line =
     elim (eq_decided s.ring.left 0) [
       | inl zero ↦ elim (question_decided s line) [ inl t ↦ inl (t.0, inr (zero, t.1)) | inr f ↦ inr (f.0, f.1, inr (zero, f.2)) ]
@@ -116,7 +116,7 @@ takes_decided s g line =
           elim (corner_decided s g more line) [ inl t ↦ inl (t.0, inl (more, t.1)) | inr f ↦ inr f ]
     ]
 
-question_keeps : (s t : Questions) (line : List ℕ) → IsGrowing s.ring.left s.ring.vertices → TakesQuestion s line t → IsGrowing t.ring.left t.ring.vertices
+pub question_keeps : (s t : Questions) (line : List ℕ) → IsGrowing s.ring.left s.ring.vertices → TakesQuestion s line t → IsGrowing t.ring.left t.ring.vertices
 question_keeps s t line g (inl (more, (ring, p, inl (some, e)))) = rw e (ring_keeps s.ring ring line g more p)
 question_keeps s t line g (inl (more, (ring, p, inr (zero, e)))) = rw e no_ring_grows
 question_keeps s t line g (inr (zero, inl (w, (r, p, e)))) = rw e g

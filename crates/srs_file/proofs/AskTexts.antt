@@ -1,6 +1,5 @@
 -- What is read as a certificate with questions is its text, and its text is read.
 use Rattle.std.proofs.Common.{◌≡◌, ◌++◌, Bool, true, false, ℕ, List, [], ◌∷◌, length, codes, refl, sym, ap, ◌∙◌, inl, inr, append_assoc, append-nil}
-use Rattle.std.proofs.lemmas.List.Concat.{flat_map-append}
 use Rattle.srs_tree.specs.declared.queries.Query.{Query}
 use Rattle.srs_line.specs.Machine.{lines_text, Runs, IsRead}
 use Rattle.srs_line.specs.declared.slip.FileErr.{FileErr}
@@ -12,6 +11,7 @@ use Rattle.srs_file.specs.declared.questions.Questions.{Questions}
 use Rattle.srs_file.specs.declared.ask_reader.AskReader.{AskReader}
 use Rattle.srs_cert.specs.Texts.{ended}
 use Rattle.srs_cert.specs.Certificates.{CertView}
+use Rattle.srs_file.specs.Questions.{IsQuestion}
 use Rattle.srs_file.specs.Grammar.{SpellsAsk}
 use Rattle.srs_file.specs.CertReading.{cert_start, CertSteps, CertEnds, read_view}
 use Rattle.srs_file.specs.QuestionReading.{no_questions, TakesQuestion}
@@ -20,7 +20,8 @@ use Rattle.srs_file.proofs.CertLaws.{cert_exact}
 use Rattle.srs_file.proofs.CertTexts.{read_is_cert}
 use Rattle.srs_file.proofs.CertRuns.{text_is_cert}
 use Rattle.srs_file.proofs.LineShapes.{end_no_lf}
-use Rattle.srs_file.proofs.QuestionTexts.{flat, IsAsked, all_asked, lines_asked}
+use Rattle.srs_file.proofs.QuestionTexts.{flat, texts_of, text_of, none_asked, all_asked, lines_asked}
+use Rattle.srs_file.proofs.Spelled.{joined_append}
 use Rattle.srs_file.proofs.QuestionRuns.{after, asks_all}
 use Rattle.srs_file.proofs.AskLaws.{ask_exact}
 
@@ -99,27 +100,24 @@ asked start last (line ∷ []) (u, (a, inr (ends', inr (here, e))), plain, runs)
 }
 asked start last (line ∷ l ∷ lines) (u, (a, inr (ends', inr (here, e))), plain, runs) ends open_still end = absurd (runs.1.0 (rw e refl))
 
-joined_append : (xs ys : List (List ℕ)) → lines_text (xs ++ ys) ≡ lines_text xs ++ lines_text ys
-joined_append xs ys = flat_map-append (λ (x : List ℕ). x ++ 10 ∷ []) xs ys
-
 pub read_is_ask : (text : List ℕ) (last : AskReader) → IsRead AskSteps AskEnds ask_start text last → SpellsAsk text (read_view last.cert) last.questions.queries
 read_is_ask text last (count, reaches, end) =
     let cut = parts ask_start last reaches.lines reaches.good (not_ended cert_start no_questions) end in
     let behind = asked (with_cert cut.cert) last cut.back cut.asked cut.ends (not_ended cut.cert no_questions) end in
     let certificate : IsRead CertSteps CertEnds cert_start (lines_text cut.front) cut.cert =
     (length cut.front, record { lines = cut.front; count_is = refl; whole = sym (append-nil (lines_text cut.front)); good = cut.read }, cut.ends) in
-    let none : IsAsked no_questions [] = record { texts = []; asked = tt; ring = []; ring_is = inr (refl, refl); whole = refl } in
-    let so = lines_asked no_questions behind.questions behind.front [] behind.read none in
-    let questions : lines_text behind.front ≡ flat so.texts = all_asked behind.questions (lines_text behind.front) behind.closed so in
-    let back : lines_text cut.back ≡ flat so.texts ++ ended (codes "end") = ap lines_text behind.lines_are ∙ joined_append behind.front (codes "end" ∷ []) ∙ rw questions refl in
-    let all : text ≡ (lines_text cut.front ++ flat so.texts) ++ ended (codes "end") =
-    reaches.whole ∙ append-nil (lines_text reaches.lines) ∙ ap lines_text cut.lines_are ∙ joined_append cut.front cut.back ∙ ap (λ x. lines_text cut.front ++ x) back ∙ sym (append_assoc (lines_text cut.front) (flat so.texts) (ended (codes "end"))) in
-    rw behind.last_is (record { certificate = lines_text cut.front; of_certificate = read_is_cert (lines_text cut.front) cut.cert certificate; questions = so.texts; of_questions = so.asked; whole = all })
+    let so = lines_asked no_questions behind.questions behind.front [] behind.read (none_asked IsQuestion) in
+    let (texts, are, same) = texts_of so.questions behind.questions.queries so.asked in
+    let questions : lines_text behind.front ≡ flat texts = all_asked IsQuestion behind.questions (lines_text behind.front) behind.closed so ∙ same in
+    let back : lines_text cut.back ≡ flat texts ++ ended (codes "end") = ap lines_text behind.lines_are ∙ joined_append behind.front (codes "end" ∷ []) ∙ rw questions refl in
+    let all : text ≡ (lines_text cut.front ++ flat texts) ++ ended (codes "end") =
+    reaches.whole ∙ append-nil (lines_text reaches.lines) ∙ ap lines_text cut.lines_are ∙ joined_append cut.front cut.back ∙ ap (λ x. lines_text cut.front ++ x) back ∙ sym (append_assoc (lines_text cut.front) (flat texts) (ended (codes "end"))) in
+    rw behind.last_is (record { certificate = lines_text cut.front; of_certificate = read_is_cert (lines_text cut.front) cut.cert certificate; questions = texts; of_questions = are; whole = all })
 
 pub ask_is_read : (text : List ℕ) (c : CertView) (queries : List Query) → SpellsAsk text c queries → ReadsAsAsk text c queries
 ask_is_read text c queries s =
     let (cert, (count, reaches, ends), view) = text_is_cert s.certificate c s.of_certificate in
-    let asking = asks_all [] s.questions queries s.of_questions in
+    let asking = asks_all [] (flat s.questions) queries (text_of s.questions queries s.of_questions) in
     let last = with_questions cert true (after queries) in
     let first = runs_inside CertSteps AskSteps with_cert (λ x u line p. (not_ended x no_questions, inl ((λ e. cert_exact.over x u line e p), u, p, refl))) cert_start cert reaches.lines reaches.good in
     let then = runs_inside TakesQuestion AskSteps (with_questions cert false) (λ x u line p. (not_ended cert x, inr (ends, inl (u, p, refl)))) no_questions (after queries) asking.lines asking.runs in

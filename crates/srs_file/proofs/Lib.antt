@@ -25,5 +25,12 @@ pub mod PolygonDecided
 pub mod TreeDecided
 pub mod CertDecided
 pub mod AskDecided
+pub mod Spelled
+pub mod SessionLaws
+pub mod LiveReaderLaws
+pub mod LiveDecided
+pub mod SessionTexts
+pub mod SessionRuns
 pub mod LiveTexts
+pub mod SaidLaws
 pub mod LiveLaws

@@ -82,7 +82,7 @@ abbrev pub AreClear : List ℕ → Type 0
 AreClear [] = Unit {0}
 AreClear (x ∷ xs) = (32 ≤ x) × AreClear xs
 
-clear_no_lf : (xs : List ℕ) → AreClear xs → HasNoLf xs
+pub clear_no_lf : (xs : List ℕ) → AreClear xs → HasNoLf xs
 clear_no_lf [] c = All-nil (λ c. c ≢ 10)
 clear_no_lf (x ∷ xs) c = All-cons (λ c. c ≢ 10) x xs (omega arith) (clear_no_lf xs c.1)
 

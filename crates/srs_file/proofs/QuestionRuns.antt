@@ -1,8 +1,7 @@
 -- The text of questions is read as the questions.
-use Rattle.std.proofs.Common.{◌≡◌, ◌<◌, ◌^◌, ◌++◌, All, FitsSigned, ℕ, pos, List, [], ◌∷◌, length, codes, refl, sym, ap, ◌∙◌, inl, inr, arith, append_assoc, append-nil, lit<}
+use Rattle.std.proofs.Common.{◌≡◌, ◌<◌, ◌^◌, ◌++◌, All, FitsSigned, ℕ, pos, List, [], ◌∷◌, length, codes, refl, sym, ap, ◌∙◌, inl, inr, arith, append_assoc, append-nil, lit<, rules}
 use Rattle.std.specs.Int.{w64}
 use Rattle.std.proofs.lemmas.Int.{ints}
-use Rattle.std.proofs.lemmas.List.Concat.{flat_map-append}
 use Rattle.std.proofs.lemmas.List.Elements.{All-cons}
 use Rattle.srs_num.specs.declared.pairs.V2.{V2}
 use Rattle.srs_num.specs.Points.{Point as Place, IsPtSized}
@@ -11,31 +10,30 @@ use Rattle.srs_plane.specs.declared.polygons.Vertex.{Vertex}
 use Rattle.srs_plane.specs.Polygons.{IsPolygon, region_of}
 use Rattle.srs_tree.specs.declared.queries.Query.{Query}
 use Rattle.srs_tree.specs.declared.queries.Query.TheVariants.{Fresh, Count, Point, Polygon, Orbit}
+use Rattle.srs_text.specs.Line.{HasNoLf}
 use Rattle.srs_line.specs.Machine.{lines_text, Runs}
 use Rattle.srs_line.specs.Fields.{line_of}
-use Rattle.srs_line.proofs.MachineLemmas.{runs_append}
 use Rattle.srs_line.proofs.LineTexts.{says_line, line_no_lf}
 use Rattle.srs_line.proofs.FieldLaws.{says_word}
 use Rattle.srs_file.specs.declared.questions.Questions.{Questions}
 use Rattle.srs_cert.specs.Texts.{ended}
 use Rattle.srs_cert.specs.Sayings.{place_numbers}
-use Rattle.srs_file.specs.Questions.{orbit_numbers, IsQuestion, AreQuestions, region_text}
+use Rattle.srs_file.specs.Questions.{orbit_numbers, IsQuestion, IsSessionQuestion, region_text}
+use Rattle.srs_file.specs.Scripts.{SpellsAll}
 use Rattle.srs_tree.specs.Questions.{IsOrbitAsked}
 use Rattle.srs_file.specs.Ring.{RingView, no_ring}
-use Rattle.srs_file.specs.QuestionReading.{TakesQuestion}
-use Rattle.srs_file.proofs.LineShapes.{point_plain, region_plain, orbit_plain, three_fit}
-use Rattle.srs_file.proofs.QuestionTexts.{flat}
+use Rattle.srs_file.specs.QuestionReading.{TakesQuestion, AsksByWord, TakesInSession}
+use Rattle.srs_file.proofs.LineShapes.{point_plain, region_plain, orbit_plain, three_fit, clear_no_lf}
+use Rattle.srs_file.proofs.Spelled.{Leads, leads_nowhere, leads_on, leads_inside}
 use Rattle.srs_file.proofs.RingTexts.{vertex_lines, joined_vertices, growing, full, says_size, opened, opened_no_lf, RingSteps, ring_runs}
 
 -- questions so far, and no ring open
 abbrev pub after : List Query → Questions
 after queries = record { ring = no_ring; queries = queries }
 
--- lines that ask these questions more, and what they are together
-pub record Asking (before queries : List Query) (text : List ℕ) : Type 0 where
-  pub lines : List (List ℕ)
-  pub spelled : lines_text lines ≡ text
-  pub runs : Runs TakesQuestion (after before) lines (after (before ++ queries))
+-- lines that ask these questions more
+abbrev pub Asking : (Questions → List ℕ → Questions → Type 0) → List Query → List Query → List ℕ → Type 0
+Asking Steps before queries text = Leads Steps (after before) text (after (before ++ queries))
 
 place_fits : (r : Place) → IsPtSized r → All (FitsSigned w64) (place_numbers r)
 place_fits r s = three_fit r.p r.q r.d (small_fits w64 r.p (2 ^ 42) s.p_range (lit< tt)) (small_fits w64 r.q (2 ^ 42) s.q_range (lit< tt)) (small_fits w64 r.d (2 ^ 40) s.d_range (lit< tt))
@@ -66,7 +64,7 @@ ring_asks before r s (line ∷ l ∷ lines) more zero (u, (a, takes), plain, run
     let left : 0 < u.left = runs.1.0 in
     (record { ring = u; queries = before }, inl (a, (u, takes, inl (left, refl))), plain, ring_asks before u s (l ∷ lines) left zero runs)
 
-asks_polygon : (before : List Query) (text : List ℕ) (vs : List Vertex) → IsPolygon vs → text ≡ region_text vs → Asking before (Polygon (region_of vs) ∷ []) text
+asks_polygon : (before : List Query) (text : List ℕ) (vs : List Vertex) → IsPolygon vs → text ≡ region_text vs → Asking TakesQuestion before (Polygon (region_of vs) ∷ []) text
 asks_polygon before text vs p e =
     let head = line_of (codes "region") (pos (length vs) ∷ []) in
     let opens = opened (codes "region") vs region_plain p in
@@ -84,7 +82,7 @@ asks_polygon before text vs p e =
       );
     }
 
-asks_one : (before : List Query) (text : List ℕ) (query : Query) → IsQuestion text query → Asking before (query ∷ []) text
+asks_one : (before : List Query) (text : List ℕ) (query : Query) → IsQuestion text query → Asking TakesQuestion before (query ∷ []) text
 asks_one before text Fresh q = absurd q
 asks_one before text Count q = absurd q
 asks_one before text (Point r) (sized, e) =
@@ -118,17 +116,42 @@ asks_one before text (Orbit r z n) (asked, e) =
       );
     }
 
-pub asks_all : (before : List Query) (texts : List (List ℕ)) (queries : List Query) → AreQuestions texts queries → Asking before queries (flat texts)
-asks_all before [] [] a = record { lines = []; spelled = refl; runs = ap after (sym (append-nil before)) }
-asks_all before [] (q ∷ queries) a = absurd a
-asks_all before (t ∷ texts) [] a = absurd a
-asks_all before (t ∷ texts) (q ∷ queries) a =
-    let one = asks_one before t q a.0 in
-    let more = asks_all (before ++ q ∷ []) texts queries a.1 in
-    let all : (before ++ q ∷ []) ++ queries ≡ before ++ q ∷ queries = append_assoc before (q ∷ []) queries in
-    let runs = runs_append TakesQuestion (after before) (after (before ++ q ∷ [])) (after ((before ++ q ∷ []) ++ queries)) one.lines more.lines one.runs more.runs in
-    record {
-      lines = one.lines ++ more.lines;
-      spelled = flat_map-append (λ (x : List ℕ). x ++ 10 ∷ []) one.lines more.lines ∙ rw (one.spelled, more.spelled) refl;
-      runs = rw all at runs;
-    }
+fresh_no_lf : HasNoLf (codes "fresh")
+fresh_no_lf = clear_no_lf (codes "fresh") (search rules)
+
+count_no_lf : HasNoLf (codes "count")
+count_no_lf = clear_no_lf (codes "count") (search rules)
+
+by_word : (before : List Query) (line text : List ℕ) (query : Query) → HasNoLf line → AsksByWord line query → text ≡ ended line → Asking TakesInSession before (query ∷ []) text
+by_word before line text query plain asks e = record {
+  lines = line ∷ [];
+  spelled = one_line line text e;
+  runs = (after (before ++ query ∷ []), inr (refl, query, asks, refl), plain, refl);
+}
+
+as_in_ask : (before : List Query) (text : List ℕ) (query : Query) → IsQuestion text query → Asking TakesInSession before (query ∷ []) text
+as_in_ask before text query q =
+    leads_inside TakesQuestion TakesInSession (λ (x : Questions). x) (λ x u line p. inl p) (after before) (after (before ++ query ∷ [])) text (asks_one before text query q)
+
+session_asks : (before : List Query) (text : List ℕ) (query : Query) → IsSessionQuestion text query → Asking TakesInSession before (query ∷ []) text
+session_asks before text Fresh e = by_word before (codes "fresh") text Fresh fresh_no_lf (inl (refl, refl)) e
+session_asks before text Count e = by_word before (codes "count") text Count count_no_lf (inr (refl, refl)) e
+session_asks before text (Point r) q = as_in_ask before text (Point r) q
+session_asks before text (Polygon area) q = as_in_ask before text (Polygon area) q
+session_asks before text (Orbit r z n) q = as_in_ask before text (Orbit r z n) q
+
+module _ (Asks : List ℕ → Query → Type 0) (Steps : Questions → List ℕ → Questions → Type 0)
+    (one : (before : List Query) (text : List ℕ) (query : Query) → Asks text query → Asking Steps before (query ∷ []) text) where
+  all_lines : (before : List Query) (text : List ℕ) (queries : List Query) → SpellsAll Asks text queries → Asking Steps before queries text
+  all_lines before text [] e = rw (e, append-nil before) (leads_nowhere Steps (after before))
+  all_lines before text (q ∷ queries) (first, rest, whole, here, more) =
+      let all : (before ++ q ∷ []) ++ queries ≡ before ++ q ∷ queries = append_assoc before (q ∷ []) queries in
+      let behind = rw all at (all_lines (before ++ q ∷ []) rest queries more) in
+      rw whole (leads_on Steps (after before) (after (before ++ q ∷ [])) (after (before ++ q ∷ queries)) first rest (one before first q here) behind)
+
+-- the text of questions is read, in `ask` and in a session
+pub asks_all : (before : List Query) (text : List ℕ) (queries : List Query) → SpellsAll IsQuestion text queries → Asking TakesQuestion before queries text
+asks_all = all_lines IsQuestion TakesQuestion asks_one
+
+pub session_asks_all : (before : List Query) (text : List ℕ) (queries : List Query) → SpellsAll IsSessionQuestion text queries → Asking TakesInSession before queries text
+session_asks_all = all_lines IsSessionQuestion TakesInSession session_asks

@@ -4,9 +4,10 @@ pub mod Grammar
 pub mod Ring
 pub mod Outline
 pub mod PolygonReading
-pub mod LiveReading
 pub mod Leaf
 pub mod TreeReading
 pub mod CertReading
 pub mod QuestionReading
 pub mod AskReading
+pub mod SessionReading
+pub mod LiveReading

@@ -4,7 +4,7 @@ use Rattle.srs_num.specs.declared.pairs.V2.{V2}
 use Rattle.srs_num.specs.Points.{Point as Place, IsPtSized}
 use Rattle.srs_plane.specs.Polygons.{region_of}
 use Rattle.srs_tree.specs.declared.queries.Query.{Query}
-use Rattle.srs_tree.specs.declared.queries.Query.TheVariants.{Point, Polygon, Orbit}
+use Rattle.srs_tree.specs.declared.queries.Query.TheVariants.{Fresh, Count, Point, Polygon, Orbit}
 use Rattle.srs_line.specs.declared.slip.Slip.{Slip}
 use Rattle.srs_line.specs.declared.slip.Slip.TheVariants.{Word, Range}
 use Rattle.srs_line.specs.Fields.{Says, HasWord, IsFieldSlip}
@@ -87,3 +87,19 @@ TakesQuestion old line new = ((0 < old.ring.left) × StepsVertex old line new) �
 -- what is wrong with a vertex, or with a question
 abbrev pub SlipsQuestion : Questions → List ℕ → Slip → ℕ → Type 0
 SlipsQuestion old line slip back = ((0 < old.ring.left) × SlipsVertex old.ring line slip back) ⊎ ((old.ring.left ≡ 0) × SlipsAsked line slip back)
+
+-- the line asks the question by one word
+abbrev pub AsksByWord : List ℕ → Query → Type 0
+AsksByWord line query =
+    ((line ≡ codes "fresh") × (query ≡ Fresh)) ⊎ ((line ≡ codes "count") × (query ≡ Count))
+
+-- in a session a question may be one word too
+abbrev pub TakesInSession : Questions → List ℕ → Questions → Type 0
+TakesInSession old line new =
+    TakesQuestion old line new
+    ⊎ ((old.ring.left ≡ 0) × (query : Query) × AsksByWord line query × AddsQuery old query new)
+
+-- what is wrong with a vertex, or with a question of a session
+abbrev pub SlipsInSession : Questions → List ℕ → Slip → ℕ → Type 0
+SlipsInSession old line slip back =
+    ((old.ring.left ≡ 0) → (query : Query) → AsksByWord line query → ⊥) × SlipsQuestion old line slip back

@@ -3,12 +3,13 @@ ghost use Rattle.std.specs.Prelude.{◌≡◌, ◌≢◌, ◌↔◌, ◌<◌, �
 ghost use Rattle.srs_num.specs.declared.pairs.V2.{V2};
 ghost use Rattle.srs_num.specs.Points.{Point};
 ghost use Rattle.srs_plane.specs.Polygons.{region_of};
+ghost use Rattle.srs_tree.specs.declared.queries.Query.{Query as Asked};
 ghost use Rattle.srs_tree.specs.declared.queries.Query.TheVariants.{Polygon};
 ghost use Rattle.srs_line.specs.Refusal.{IsSlip};
 ghost use Rattle.srs_file.specs.Ring.{IsFull, no_ring, IsOpenSlip, SlipsVertex};
 ghost use Rattle.srs_file.specs.Questions.{orbit_numbers};
 ghost use Rattle.srs_tree.specs.Questions.{IsOrbitAsked, IsAskable};
-ghost use Rattle.srs_file.specs.QuestionReading.{no_questions, AddsQuery, SaysPlace, IsPlaceSlip, SaysOrbit, IsOrbitSlip, StepsPoint, StepsRegion, StepsOrbit, StepsVertex, TakesQuestion, SlipsQuestion};
+ghost use Rattle.srs_file.specs.QuestionReading.{no_questions, AddsQuery, SaysPlace, IsPlaceSlip, SaysOrbit, IsOrbitSlip, StepsPoint, StepsRegion, StepsOrbit, StepsVertex, TakesQuestion, SlipsQuestion, AsksByWord, TakesInSession, SlipsInSession};
 
 use crate::Ring;
 use crate::polygon_reader::inhabited;
@@ -61,6 +62,20 @@ impl Questions {
             return self.orbit(line);
         }
         Err(LineErr::Slip(Slip::Word, 0))
+    }
+
+    /// Takes the next line in a session, where `fresh` and `count` ask too. An `Err` may leave any questions.
+    pub fn take_in_session(&mut self, line: &[u8]) -> Result<(), LineErr>
+        ensures ok { OnOk result (TakesInSession self.old line.now self.new) }
+        ensures err { IfErr result (IsSlip (SlipsInSession self.old line.now)) }
+    {
+        if self.wants_more() {
+            return self.take(line);
+        }
+        match asked_by_word(line) {
+            Some(query) => self.ask(query),
+            None => self.take(line),
+        }
     }
 
     fn vertex(&mut self, line: &[u8]) -> Result<(), LineErr>
@@ -126,6 +141,20 @@ impl Questions {
         };
         Ok(())
     }
+}
+
+// The question that the line asks by its one word.
+fn asked_by_word(line: &[u8]) -> Option<Query>
+    ensures some { IfSome result (AsksByWord line.now) }
+    ensures none { IfNone result ((query : Asked) → AsksByWord line.now query → ⊥) }
+{
+    if line == b"fresh".as_slice() {
+        return Some(Query::Fresh);
+    }
+    if line == b"count".as_slice() {
+        return Some(Query::Count);
+    }
+    None
 }
 
 // Reads the line of a point that is asked about.

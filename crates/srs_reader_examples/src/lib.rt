@@ -11,4 +11,6 @@ mod makings;
 #[cfg(test)]
 mod sections;
 #[cfg(test)]
+mod sessions;
+#[cfg(test)]
 mod trees;

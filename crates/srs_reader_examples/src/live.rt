@@ -21,7 +21,7 @@ fn live_of(alloc: Global, text: &str) -> Result<Result<(u64, u64, Cell), FileErr
 }
 
 // The first slip of the input.
-fn slip_of(alloc: Global, lines: &[&[&str]]) -> Result<Option<FileErr>, Fail> {
+pub fn slip_of(alloc: Global, lines: &[&[&str]]) -> Result<Option<FileErr>, Fail> {
     match live_of(alloc, &text_of(alloc, lines)?)? {
         Ok(_) => Ok(None),
         Err(refused) => Ok(Some(refused)),
