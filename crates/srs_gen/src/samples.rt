@@ -1,7 +1,7 @@
 // The polygon and the points of a seed.
 ghost use Rattle.std.specs.Prelude.{◌≡◌, ◌<◌, ◌≤◌, ◌*◌, ◌^◌, IfOk};
 ghost use Rattle.srs_gen.specs.Draws.{next_state, state_after};
-ghost use Rattle.srs_gen.specs.Samples.{vertex_from, point_from, points_from, made_vertices, made_points};
+ghost use Rattle.srs_gen.specs.Samples.{kind_by, vertex_from, point_from, points_from, made_vertices, made_points};
 
 use crate::draws::Draws;
 use srs_num::{Items, NoMemory, Pt};
