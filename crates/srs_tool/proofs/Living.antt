@@ -1,11 +1,12 @@
 -- The text of a live run.
-use Rattle.std.proofs.Common.{◌≡◌, ℕ, List, [], take, drop, refl, sym, ap, subst, ◌∙◌, take-append-drop}
+use Rattle.std.proofs.Common.{◌≡◌, ℕ, List, take, drop, refl, sym, ap, subst, ◌∙◌, take-append-drop}
 use Rattle.srs_plane.specs.declared.polygons.Vertex.{Vertex}
 use Rattle.srs_plane.specs.Polygons.{region_of}
 use Rattle.srs_plane.specs.Regions.{Area, HasPoint}
 use Rattle.srs_path.specs.Views.{Budget, IsBudget}
 use Rattle.srs_tree.specs.declared.queries.Said.{Said}
 use Rattle.srs_tree.specs.declared.sessions.Run.{Run}
+use Rattle.srs_tree.specs.declared.sessions.Segment.{Segment}
 use Rattle.srs_tree.specs.Tree.{History, outcome_at, IsPartition}
 use Rattle.srs_tree.specs.Legality.{IsLegal}
 use Rattle.srs_tree.specs.Snapshots.{Snapshot, StandsFor}
@@ -22,8 +23,8 @@ use Rattle.srs_tool.specs.Output.{IsCertificateOf, EndsWithCertificate, IsLiveRu
 use Rattle.srs_tool.proofs.Certifying.{events_sound, plan_decides, one_certificate_of}
 
 -- in preorder the events of a run list a whole tree within the limits
-pub run_listed : (b : Budget) (R : Area) (run : Run) → IsBudget b → IsRun R b run → ListsWholeTree (preorder_of run.version) × IsWithin b (preorder_of run.version)
-run_listed b R run budget is = listed R b run.journal run.version budget is.whole is.stands
+pub run_listed : (b : Budget) (R : Area) (script : List (List Segment)) (run : Run) → IsBudget b → IsRun R b script run → ListsWholeTree (preorder_of run.version) × IsWithin b (preorder_of run.version)
+run_listed b R script run budget is = listed R b run.journal run.version budget is.whole is.stands
 
 module _ (vs : List Vertex) (b : Budget) (H : History) (v : Snapshot) (point : HasPoint (region_of vs)) (whole : IsWhole (region_of vs) b H) (stands : StandsFor (region_of vs) H v) where
   abbrev Root : Area
@@ -43,26 +44,28 @@ module _ (vs : List Vertex) (b : Budget) (H : History) (v : Snapshot) (point : H
     written = record { snapshot = v; stands = stands; written = refl };
   }
 
-  pub ends_with_certificate : HasNoMemory H → (text : List ℕ) → text ≡ live_text H [] (cert_of vs b v) → EndsWithCertificate vs b H text
-  ends_with_certificate none text written = record {
+  pub ends_with_certificate : HasNoMemory H → (told : List (List Said)) (text : List ℕ) → text ≡ live_text H told (cert_of vs b v) → EndsWithCertificate vs b H told text
+  ends_with_certificate none told text written = record {
     certificate = cert_text (cert_of vs b v);
     is = planned_text none;
     only = λ other is. one_certificate_of vs b other (cert_text (cert_of vs b v)) is (planned_text none);
     written = written;
   }
 
-pub live_run_of : LiveTextIsOne → (vs : List Vertex) (b : Budget) (run : Run) (cert : CertView) (text : List ℕ) → HasPoint (region_of vs) → IsRun (region_of vs) b run
-    → cert ≡ cert_of vs b run.version → IsCertificate cert → text ≡ live_text run.journal run.transcripts cert → IsLiveRunOf vs b text
-live_run_of law vs b run cert text point is same certificate printed = record {
+pub live_run_of : LiveTextIsOne → (vs : List Vertex) (b : Budget) (script : List (List Segment)) (run : Run) (cert : CertView) (text : List ℕ) → HasPoint (region_of vs) → IsRun (region_of vs) b script run
+    → cert ≡ cert_of vs b run.version → IsCertificate cert → text ≡ live_text run.journal run.transcripts cert → IsLiveRunOf vs b script text
+live_run_of law vs b script run cert text point is same certificate printed = record {
   history = run.journal;
+  told = run.transcripts;
   decides = decides_in_rounds vs b run.journal run.version point is.whole is.stands is.in_rounds;
+  fits = is.fits;
   written = live;
-  only = λ ws c G legal other. law ws vs c b G run.journal text legal is.whole.legal other live;
-  certified = λ none. ends_with_certificate vs b run.journal run.version point is.whole is.stands none text written;
+  only = λ ws c G others legal other. law ws vs c b G run.journal others run.transcripts text legal is.whole.legal other live;
+  certified = λ none. ends_with_certificate vs b run.journal run.version point is.whole is.stands none run.transcripts text written;
 }
   where
-    written : text ≡ live_text run.journal [] (cert_of vs b run.version)
-    written = printed ∙ ap (λ (told : List (List Said)). live_text run.journal told cert) is.untold ∙ ap (live_text run.journal []) same
+    written : text ≡ live_text run.journal run.transcripts (cert_of vs b run.version)
+    written = printed ∙ ap (live_text run.journal run.transcripts) same
 
-    live : IsLiveTextOf vs b run.journal [] text
+    live : IsLiveTextOf vs b run.journal run.transcripts text
     live = record { snapshot = run.version; stands = is.stands; certificate = subst IsCertificate same certificate; written = written }

@@ -1,5 +1,5 @@
 -- What `live` decides, in which order, and what it writes before its certificate.
-use Rattle.std.specs.Prelude.{◌≢◌, ℕ, List, [], ◌++◌, take, Contains, codes}
+use Rattle.std.specs.Prelude.{◌≢◌, ℕ, List, ◌++◌, take, Contains, codes}
 use Rattle.srs_plane.specs.Regions.{Area}
 use Rattle.srs_path.specs.declared.outcomes.Outcome.TheVariants.{Left}
 use Rattle.srs_path.specs.declared.outcomes.Cause.TheVariants.{Memory}
@@ -7,6 +7,7 @@ use Rattle.srs_path.specs.Views.{Budget, Entry}
 use Rattle.srs_path.specs.Soundness.{IsSound}
 use Rattle.srs_tree.specs.Tree.{History, outcome_at, region_at, IsPartition}
 use Rattle.srs_tree.specs.Rounds.{IsWhole, IsInRounds}
+use Rattle.srs_tree.specs.declared.queries.Said.{Said}
 use Rattle.srs_cert.specs.Texts.{ended, count_text}
 use Rattle.srs_cert.specs.Lives.{journal_text, sessions_text}
 
@@ -24,7 +25,8 @@ pub record DecidesInRounds (Root : Area) (b : Budget) (H : History) : Type 0 whe
   pub sound : (e : Entry) → Contains H e
       → IsSound (region_at Root (outcome_at H) e.path) b.wits e.outcome
 
--- what stands before the certificate in the text of a live run without sessions
-abbrev pub before_certificate : History → List ℕ
-before_certificate H =
-    count_text (codes "live") 1 ++ journal_text H ++ sessions_text [] ++ ended (codes "end")
+-- what stands before the certificate in the text of a live run: the journal, and what each session
+-- was told
+abbrev pub before_certificate : History → List (List Said) → List ℕ
+before_certificate H told =
+    count_text (codes "live") 1 ++ journal_text H ++ sessions_text told ++ ended (codes "end")

@@ -1,5 +1,5 @@
 -- What the program owes for an input that was read to its end: a status, and what it writes.
-use Rattle.std.specs.Prelude.{◌≡◌, ◌⊎◌, ℕ, List, [], ◌++◌, Contains, pos, codes}
+use Rattle.std.specs.Prelude.{◌≡◌, ◌⊎◌, ℕ, List, ◌++◌, Contains, pos, codes}
 use Rattle.std.specs.Fmt.{signed_decimal}
 use Rattle.srs_plane.specs.declared.polygons.Vertex.{Vertex}
 use Rattle.srs_plane.specs.Polygons.{region_of}
@@ -10,6 +10,9 @@ use Rattle.srs_tree.specs.declared.queries.Query.{Query}
 use Rattle.srs_tree.specs.Tree.{History, outcome_at, region_at, IsPartition}
 use Rattle.srs_tree.specs.Legality.{IsLegal}
 use Rattle.srs_tree.specs.Rounds.{IsPlan}
+use Rattle.srs_tree.specs.Fits.{Fits}
+use Rattle.srs_tree.specs.declared.queries.Said.{Said}
+use Rattle.srs_tree.specs.declared.sessions.Segment.{Segment}
 use Rattle.srs_line.specs.declared.slip.Slip.{Slip}
 use Rattle.srs_line.specs.Refusal.{slip_word}
 use Rattle.srs_cert.specs.Certificates.{CertView, IsTextOf}
@@ -58,29 +61,35 @@ pub record Certifies (b : Budget) (input output : List ℕ) : Type 0 where
   pub certificate : IsCertificateOf vertices b output
 
 -- the text of a live run ends with the one certificate of the polygon, which `certify` prints
-pub record EndsWithCertificate (vertices : List Vertex) (b : Budget) (H : History) (text : List ℕ)
-    : Type 0 where
+pub record EndsWithCertificate (vertices : List Vertex) (b : Budget) (H : History)
+    (told : List (List Said)) (text : List ℕ) : Type 0 where
   pub certificate : List ℕ
   pub is : IsCertificateOf vertices b certificate
   pub only : (other : List ℕ) → IsCertificateOf vertices b other → other ≡ certificate
-  pub written : text ≡ before_certificate H ++ certificate
+  pub written : text ≡ before_certificate H told ++ certificate
 
 -- The text is that of a live run over the polygon, with a history that decides its region round by
--- round; it is the text of no other. Its certificate lists the events of the history in preorder, and
--- is that of `certify` where no cell was left for want of memory.
-pub record IsLiveRunOf (vertices : List Vertex) (b : Budget) (text : List ℕ) : Type 0 where
+-- round, and with what each session of the script was told, which fits that history; it is the text
+-- of no other. Its certificate lists the events of the history in preorder, and is that of `certify`
+-- where no cell was left for want of memory.
+pub record IsLiveRunOf (vertices : List Vertex) (b : Budget) (script : List (List Segment))
+    (text : List ℕ) : Type 0 where
   pub history : History
+  pub told : List (List Said)
   pub decides : DecidesInRounds (region_of vertices) b history
-  pub written : IsLiveTextOf vertices b history [] text
-  pub only : (ws : List Vertex) (c : Budget) (G : History) → IsLegal (region_of ws) c.wits G
-      → IsLiveTextOf ws c G [] text → (ws ≡ vertices) × (c ≡ b) × (G ≡ history)
-  pub certified : HasNoMemory history → EndsWithCertificate vertices b history text
+  pub fits : Fits (region_of vertices) history script told
+  pub written : IsLiveTextOf vertices b history told text
+  pub only : (ws : List Vertex) (c : Budget) (G : History) (others : List (List Said))
+      → IsLegal (region_of ws) c.wits G → IsLiveTextOf ws c G others text
+      → (ws ≡ vertices) × (c ≡ b) × (G ≡ history) × (others ≡ told)
+  pub certified : HasNoMemory history → EndsWithCertificate vertices b history told text
 
--- the input is a polygon with no sessions, and the output is the text of a live run over it
+-- the input is a polygon with sessions, and the output is the text of a live run over it
 pub record RunsLive (b : Budget) (input output : List ℕ) : Type 0 where
   pub vertices : List Vertex
-  pub spelled : SpellsLive input vertices []
-  pub run : IsLiveRunOf vertices b output
+  pub script : List (List Segment)
+  pub spelled : SpellsLive input vertices script
+  pub run : IsLiveRunOf vertices b script output
 
 -- The input is a certificate, each node of which proves itself, and the output says so. So its leaves partition its
 -- polygon, each cut divides, and inside each point is finite, outside the printed pair recurs at each point.

@@ -1,7 +1,8 @@
 // The command `live`.
-ghost use Rattle.std.specs.Prelude.{◌≡◌, ◌≤◌, ◌^◌, IfOk, length};
+ghost use Rattle.std.specs.Prelude.{◌≡◌, ◌≤◌, ◌^◌, List, IfOk, length};
 ghost use Rattle.srs_plane.specs.Polygons.{IsPolygon, region_of};
 ghost use Rattle.srs_plane.specs.Regions.{HasPoint};
+ghost use Rattle.srs_tree.specs.declared.sessions.Segment.{Segment};
 ghost use Rattle.srs_crew.specs.Runs.{IsRun};
 ghost use Rattle.srs_tool.specs.declared.commands.Command.TheVariants.{Live};
 ghost use Rattle.srs_tool.specs.Words.{IsCrew};
@@ -19,13 +20,13 @@ use srs_plane::Vertices;
 use srs_print::put_live;
 use srs_session::Gate;
 use srs_text::Bytes;
-use srs_tree::Run;
+use srs_tree::{Run, Script};
 use std::alloc::Global;
 use std::sync::Wait;
 use std::thread::Threads;
 
-/// The text of a live run over the polygon that the input spells, by so many workers, or the refusal of the input. An
-/// `Err` is want of memory.
+/// The text of a live run over the polygon that the input spells, by so many workers and with its
+/// sessions, or the refusal of the input. An `Err` is want of memory.
 pub fn live<R: Threads + Wait + Sync, G: Gate>(
     rt: &R,
     alloc: Global,
@@ -39,8 +40,8 @@ pub fn live<R: Threads + Wait + Sync, G: Gate>(
     ensures { IfOk result (λ o. Owes (Live limits.now workers) input.now o.status o.text) }
 {
     match read_live(alloc, input) {
-        Ok((vertices, cell, _script)) => {
-            let text = live_run(rt, alloc, limits, workers, &vertices, cell, gate)?;
+        Ok((vertices, cell, script)) => {
+            let text = live_run(rt, alloc, limits, workers, &vertices, cell, &script, gate)?;
             Ok(Output {
                 status: Status::Done,
                 text,
@@ -51,7 +52,7 @@ pub fn live<R: Threads + Wait + Sync, G: Gate>(
     }
 }
 
-// The text of a live run over the polygon with this cell.
+// The text of a live run over the polygon with this cell, and with these sessions.
 fn live_run<R: Threads + Wait + Sync, G: Gate>(
     rt: &R,
     alloc: Global,
@@ -59,16 +60,17 @@ fn live_run<R: Threads + Wait + Sync, G: Gate>(
     workers: u32,
     vertices: &Vertices,
     cell: Cell,
+    script: &Script,
     gate: &G,
 ) -> Result<Bytes, NoMemory>
     requires crew { IsCrew workers }
     requires polygon { IsPolygon vertices.now }
     requires region { cell ≡ region_of vertices.now }
-    ensures { IfOk result (IsLiveRunOf vertices.now limits.now) }
+    ensures { IfOk result (IsLiveRunOf vertices.now limits.now script.now) }
 {
     // A cell has a point.
     let _ = cell.region();
-    let run = run_levels(rt, alloc, cell, *limits, workers, gate)?;
+    let run = run_levels(rt, alloc, cell, *limits, workers, script, gate)?;
     text_of(alloc, limits, vertices, &run)
 }
 
@@ -81,8 +83,11 @@ fn text_of(
 ) -> Result<Bytes, NoMemory>
     requires polygon { IsPolygon vertices.now }
     requires point { HasPoint (region_of vertices.now) }
-    requires run { IsRun (region_of vertices.now) limits.now run.now }
-    ensures { IfOk result (IsLiveRunOf vertices.now limits.now) }
+    requires run { (script : List (List Segment)) ×
+        IsRun (region_of vertices.now) limits.now script run.now }
+    ensures { (script : List (List Segment)) →
+        IsRun (region_of vertices.now) limits.now script run.now →
+        IfOk result (IsLiveRunOf vertices.now limits.now script) }
 {
     // Limits are within their ranges.
     let _ = limits.wits();

@@ -9,15 +9,15 @@ use std::thread::Threads;
 const SPLIT: &str = "polygon 3\nge -1 0 8\nge 0 -1 8\nge 1 0 8\nend\n";
 
 // What `certify 2 64 16` prints for it.
-const SPLIT_CERTIFICATE: &str =
+pub(crate) const SPLIT_CERTIFICATE: &str =
     "srs 1\npolygon 3\nge -1 0 8\nge 0 -1 8\nge 1 0 8\nlimits 2 64 16\ncut 0 1 0\ncut 1 0 0\nin 5\nw -1 0 3\nw 0 -1 4\nw 0 0 0\nw 0 1 2\nw 1 0 1\nout 2 0 1\ncut 1 1 0\nin 9\nw -1 -1 5\nw -1 0 4\nw -1 1 3\nw 0 -1 5\nw 0 0 0\nw 0 1 3\nw 1 -1 5\nw 1 0 1\nw 1 1 2\nout 1 1\nend\n";
 
 // One worker takes the cells of a round in their order.
-const SPLIT_JOURNAL: &str =
-    "live 1\njournal 7\ne . cut 0 1 0\ne g cut 1 0 0\ne l cut 1 1 0\ne gg in 5\ne gl out 2 0 1\ne lg in 9\ne ll out 1 1\nend\n";
+pub(crate) const SPLIT_EVENTS: &str =
+    "live 1\njournal 7\ne . cut 0 1 0\ne g cut 1 0 0\ne l cut 1 1 0\ne gg in 5\ne gl out 2 0 1\ne lg in 9\ne ll out 1 1\n";
 
 // Whether the text is the front and then the back.
-fn is_both(text: &[u8], front: &str, back: &str) -> bool {
+pub(crate) fn is_both(text: &[u8], front: &str, back: &str) -> bool {
     match text.strip_prefix(front.as_bytes()) {
         Some(rest) => rest == back.as_bytes(),
         None => false,
@@ -28,7 +28,10 @@ fn is_both(text: &[u8], front: &str, back: &str) -> bool {
 fn one_worker(rt: HostRuntime) -> Result<(), Fail> {
     let seen = play_top(&rt, rt.alloc(), "live 2 64 16 1", &[SPLIT.as_bytes()])?;
     assert_eq!(rt; seen.status, Status::Done);
-    assert!(rt; is_both(seen.sink.bytes(), SPLIT_JOURNAL, SPLIT_CERTIFICATE));
+    let Some(rest) = seen.sink.bytes().strip_prefix(SPLIT_EVENTS.as_bytes()) else {
+        return Err("the events are those of one worker")?;
+    };
+    assert!(rt; is_both(rest, "end\n", SPLIT_CERTIFICATE));
     Ok(())
 }
 
@@ -63,14 +66,14 @@ fn events_in_either_order(rt: HostRuntime) -> Result<(), Fail> {
     Ok(())
 }
 
-// Inputs that aren't taken: one of a session, which isn't in the grammar yet, and one of another number of vertices.
+// Inputs that aren't taken.
 const REFUSED: [Row; 4] = [
     ("live 2 64 16 1", "", "refused line 1 missing\n"),
     ("live 2 64 16 1", "polygon 2\n", "refused line 1 count\n"),
     (
         "live 2 64 16 16",
-        "polygon 3\nge -1 0 8\nge 0 -1 8\nge 1 0 8\nsession\nat 3\nend\n",
-        "refused line 5 word\n",
+        "polygon 3\nge -1 0 8\nge 0 -1 8\nge 1 0 8\nsession\nat 3\nat 3\nend\n",
+        "refused line 7 order\n",
     ),
     (
         "live 2 64 16 1",

@@ -21,15 +21,19 @@ use std::alloc::Global;
 use std::sync::Wait;
 use std::thread::Threads;
 
-/// Does what the words ask for: reads the source, and writes to the sink. It may wait, and start threads, only at `live`;
-/// what `plain` says of the other commands holds of them here.
+/// Does what the words ask for: reads the source, and writes to the sink. It may wait, and start
+/// threads, only at `live`; what `plain` says of the other commands holds of them here.
 ///
-/// At `Done` of `live` the source was read to its end, and its bytes are the text of a polygon, with no sessions. The
-/// bytes that were written are the text of a live run with one history, which they determine (`one_live_text`). The
-/// history is whole within the limits, and in rounds, and no cell has two events; at each of its beginnings its undivided
-/// cells partition the polygon; each point of a cell that is inside is finite, and at each point of one that is outside
-/// the printed cycle comes back. The certificate lists its events in preorder, and is that of `certify` where no cell was
-/// left for want of memory. All this holds for any number of workers, and whatever the schedule and the gate.
+/// At `Done` of `live` the source was read to its end, and its bytes are the text of a polygon with
+/// sessions. The bytes that were written are the text of a live run with one history and with what
+/// each session was told, both of which they determine (`one_live_text`). The history is whole
+/// within the limits, and in rounds, and no cell has two events; at each of its beginnings its
+/// undivided cells partition the polygon; each point of a cell that is inside is finite, and at each
+/// point of one that is outside the printed cycle comes back. Each session's answers are those of
+/// beginnings of that history, none older than one that it was told of before (`Fits`). The
+/// certificate lists the events of the history in preorder, and is that of `certify` where no cell
+/// was left for want of memory. All this holds for any number of workers and sessions, and whatever
+/// the schedule and the gate.
 pub fn run<R: Threads + Wait + Sync, S: Source, K: Sink, G: Gate>(
     rt: &R,
     alloc: Global,

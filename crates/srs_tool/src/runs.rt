@@ -2,7 +2,7 @@
 use crate::plain::plain;
 use crate::run::run;
 use crate::status::Status;
-use srs_session::FreeGate;
+use srs_session::{FreeGate, Gate};
 use srs_text::{Bytes, MemSink, MemSource, Nums};
 use std::alloc::{AllocError, Global};
 use std::sync::Wait;
@@ -58,21 +58,13 @@ pub(crate) fn failing_top<R: Threads + Wait + Sync>(
     read: i64,
     write: i64,
 ) -> Result<Seen, Fail> {
-    let words = words_of(alloc, words)?;
-    let (mut source, mut sink) = ends_of(alloc, input, read, write)?;
-    let status = run(
+    on_gate(
         rt,
         alloc,
-        words.as_slice(),
-        &mut source,
-        &mut sink,
+        words,
+        ends_of(alloc, input, read, write)?,
         &FreeGate,
-    );
-    Ok(Seen {
-        status,
-        sink,
-        source,
-    })
+    )
 }
 
 /// The run of the top call on these words and this input, which comes in pieces.
@@ -82,7 +74,35 @@ pub(crate) fn play_top<R: Threads + Wait + Sync>(
     words: &str,
     input: &[&[u8]],
 ) -> Result<Seen, Fail> {
-    failing_top(rt, alloc, words, input, NEVER, NEVER)
+    gated_top(rt, alloc, words, input, &FreeGate)
+}
+
+/// The same, where workers and sessions go through the gate.
+pub(crate) fn gated_top<R: Threads + Wait + Sync, G: Gate>(
+    rt: &R,
+    alloc: Global,
+    words: &str,
+    input: &[&[u8]],
+    gate: &G,
+) -> Result<Seen, Fail> {
+    on_gate(rt, alloc, words, ends_of(alloc, input, NEVER, NEVER)?, gate)
+}
+
+fn on_gate<R: Threads + Wait + Sync, G: Gate>(
+    rt: &R,
+    alloc: Global,
+    words: &str,
+    ends: (MemSource, MemSink),
+    gate: &G,
+) -> Result<Seen, Fail> {
+    let words = words_of(alloc, words)?;
+    let (mut source, mut sink) = ends;
+    let status = run(rt, alloc, words.as_slice(), &mut source, &mut sink, gate);
+    Ok(Seen {
+        status,
+        sink,
+        source,
+    })
 }
 
 // A source with this input, one read of which fails, and a sink, one write to which fails.

@@ -11,4 +11,4 @@ pub text_of-requires-clause-point : goal.text_of-requires-clause-point
 text_of-requires-clause-point g c = subst HasPoint c.requires.region c.region.ensures.has_point
 
 pub text_of-requires-clause-run : goal.text_of-requires-clause-run
-text_of-requires-clause-run g c = subst (λ (R : Area). IsRun R c.args.limits.now c.in_ok-run.run') c.requires.region c.in_ok-run.ensures
+text_of-requires-clause-run g c = (c.args.script.now, subst (λ (R : Area). IsRun R c.args.limits.now c.args.script.now c.in_ok-run.run') c.requires.region c.in_ok-run.ensures)
