@@ -1,2 +1,3 @@
-mod Drawn
-mod Triangles
+pub mod Drawn
+pub mod Triangles
+pub mod Spelled

@@ -6,27 +6,27 @@ use std::marker::Model;
 
 // A linear congruential generator, seen as its state, a number below 2^31.
 #[derive(Drop)]
-pub(crate) struct Draws {
+pub(crate) struct Generator {
     state: u32,
 }
 
-impl Model for Draws {
+impl Model for Generator {
     ghost use Rattle.std.specs.Prelude.{ℕ, ◌<◌, ◌^◌};
 
     ghost Value = { ℕ };
 
-    ghost view = { λ draws. draws.state };
+    ghost view = { λ generator. generator.state };
 
-    ghost invariant = { λ draws. draws.state < 2 ^ 31 };
+    ghost invariant = { λ generator. generator.state < 2 ^ 31 };
 }
 
-impl Draws {
+impl Generator {
     // The draws from the seed.
-    pub(crate) fn new(seed: u32) -> Draws
+    pub(crate) fn new(seed: u32) -> Generator
         requires { seed < 2 ^ 31 }
         ensures { result ≡ seed }
     {
-        Draws { state: seed }
+        Generator { state: seed }
     }
 
     // Draws a number below m. The low bits of such a generator recur soon, so they don't count.

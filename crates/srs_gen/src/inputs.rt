@@ -5,7 +5,7 @@ ghost use Rattle.srs_file.specs.Grammar.{SpellsLive};
 ghost use Rattle.srs_gen.specs.Samples.{made_vertices};
 ghost use Rattle.srs_gen.specs.Inputs.{question_text, asking_text, input_text, made_script, made_text};
 
-use crate::samples::sample_of;
+use crate::samples::made_sample;
 use srs_num::{NoMemory, Pt};
 use srs_plane::Vertex;
 use srs_print::{put_count, put_line, put_ring};
@@ -21,7 +21,7 @@ pub fn make(alloc: Global, s: u32, n: u32) -> Result<Bytes, NoMemory>
     ensures grammar { IfOk result
         (λ text. SpellsLive text (made_vertices s) (made_script s n)) }
 {
-    let sample = sample_of(alloc, s, n)?;
+    let sample = made_sample(alloc, s, n)?;
     let mut text = Bytes::new(alloc);
     match put_input(&mut text, &sample.vertices, sample.points.as_slice()) {
         Ok(()) => Ok(text),

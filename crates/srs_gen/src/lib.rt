@@ -6,4 +6,4 @@ mod inputs;
 mod samples;
 
 pub use inputs::make;
-pub use samples::{Points, Sample, sample_of};
+pub use samples::{Points, Sample, made_sample};

@@ -3,7 +3,7 @@ ghost use Rattle.std.specs.Prelude.{◌≡◌, ◌<◌, ◌≤◌, ◌*◌, ◌^
 ghost use Rattle.srs_gen.specs.Draws.{next_state, state_after};
 ghost use Rattle.srs_gen.specs.Samples.{kind_by, vertex_from, point_from, points_from, made_vertices, made_points};
 
-use crate::draws::Draws;
+use crate::draws::Generator;
 use srs_num::{Items, NoMemory, Pt};
 use srs_plane::{Kind, Vertex};
 use std::alloc::Global;
@@ -19,20 +19,20 @@ pub struct Sample {
 }
 
 /// The triangle and the first `n` points of the seed `s`. An `Err` is want of memory.
-pub fn sample_of(alloc: Global, s: u32, n: u32) -> Result<Sample, NoMemory>
+pub fn made_sample(alloc: Global, s: u32, n: u32) -> Result<Sample, NoMemory>
     requires seed { s < 2 ^ 31 }
     requires few { n ≤ 10000 }
     ensures vertices { IfOk result (λ sample. sample.vertices ≡ made_vertices s) }
     ensures points { IfOk result (λ sample. sample.points ≡ made_points s n) }
 {
-    let mut draws = Draws::new(s);
+    let mut draws = Generator::new(s);
     let vertices = vertices(&mut draws);
     let points = points(alloc, &mut draws, n)?;
     Ok(Sample { vertices, points })
 }
 
 // The vertices, whose kinds are the next three draws.
-fn vertices(draws: &mut Draws) -> [Vertex; 3]
+fn vertices(draws: &mut Generator) -> [Vertex; 3]
     ensures vertices { result ≡ made_vertices draws.old }
     ensures draws { draws.new ≡ state_after draws.old 3 }
 {
@@ -43,7 +43,7 @@ fn vertices(draws: &mut Draws) -> [Vertex; 3]
 }
 
 // The vertex at (p, q), whose kind is the next draw.
-fn vertex(draws: &mut Draws, p: i64, q: i64) -> Vertex
+fn vertex(draws: &mut Generator, p: i64, q: i64) -> Vertex
     ensures vertex { result ≡ vertex_from draws.old p q }
     ensures draws { draws.new ≡ next_state draws.old }
 {
@@ -59,7 +59,7 @@ fn kind_of(draw: u32) -> Kind
 }
 
 // The points of the next 2 * `n` draws.
-fn points(alloc: Global, draws: &mut Draws, n: u32) -> Result<Points, NoMemory>
+fn points(alloc: Global, draws: &mut Generator, n: u32) -> Result<Points, NoMemory>
     requires { n ≤ 10000 }
     ensures { IfOk result (λ points. points ≡ points_from draws.old n) }
 {
@@ -73,7 +73,7 @@ fn points(alloc: Global, draws: &mut Draws, n: u32) -> Result<Points, NoMemory>
 }
 
 // The point of the next two draws.
-fn point(draws: &mut Draws) -> Pt
+fn point(draws: &mut Generator) -> Pt
     ensures point { result ≡ point_from draws.old }
     ensures draws { draws.new ≡ next_state (next_state draws.old) }
 {

@@ -6,3 +6,4 @@ pub mod Certifying
 pub mod Living
 pub mod Drawing
 pub mod Replying
+pub mod Reading

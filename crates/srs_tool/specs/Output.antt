@@ -1,5 +1,5 @@
 -- What the program owes for an input that was read to its end: a status, and what it writes.
-use Rattle.std.specs.Prelude.{◌≡◌, ◌⊎◌, ℕ, List, ◌++◌, Contains, pos, codes}
+use Rattle.std.specs.Prelude.{◌≡◌, ◌⊎◌, ⊤, ℕ, List, ◌++◌, Contains, pos, codes}
 use Rattle.std.specs.Fmt.{signed_decimal}
 use Rattle.srs_plane.specs.declared.polygons.Vertex.{Vertex}
 use Rattle.srs_plane.specs.Polygons.{region_of}
@@ -23,8 +23,10 @@ use Rattle.srs_check.specs.Proving.{IsProved}
 use Rattle.srs_check.specs.Faults.{counts_of, IsFirstFault}
 use Rattle.srs_check.specs.Certified.{IsCertified}
 use Rattle.srs_raster.specs.Maps.{IsMapText}
+use Rattle.srs_gen.specs.Samples.{made_vertices}
+use Rattle.srs_gen.specs.Inputs.{made_script, made_text}
 use Rattle.srs_tool.specs.declared.commands.Command.{Command}
-use Rattle.srs_tool.specs.declared.commands.Command.TheVariants.{Certify, Live, Check, Map, Ask}
+use Rattle.srs_tool.specs.declared.commands.Command.TheVariants.{Certify, Live, Check, Map, Ask, Make, Bench}
 use Rattle.srs_tool.specs.declared.commands.Input.{Input}
 use Rattle.srs_tool.specs.Inputs.{input_of, IsInput, HasFirstSlip, HasCertificate, BringsCertificate}
 use Rattle.srs_tool.specs.Lives.{HasNoMemory, DecidesInRounds, before_certificate}
@@ -135,6 +137,11 @@ pub record Refuses (input : Input) (text output : List ℕ) : Type 0 where
   pub no_input : IsInput input text → ⊥
   pub written : output ≡ refusal_line line slip
 
+-- the text is the input of `live` that the seed s gives with n points
+pub record IsMadeInput (s n : ℕ) (text : List ℕ) : Type 0 where
+  pub made : text ≡ made_text s n
+  pub spelled : SpellsLive text (made_vertices s) (made_script s n)
+
 -- what is written at Done
 abbrev pub OwesDone : Command → List ℕ → List ℕ → Type 0
 OwesDone (Certify limits) text output = Certifies limits text output
@@ -142,6 +149,8 @@ OwesDone (Live limits workers) text output = RunsLive limits text output
 OwesDone Check text output = Validates text output
 OwesDone (Map columns rows) text output = Draws columns rows text output
 OwesDone Ask text output = Responds text output
+OwesDone (Make s n) text output = IsMadeInput s n output
+OwesDone (Bench s n) text output = ⊤
 
 -- what is written, by the status, for the text that was read
 abbrev pub Owes : Command → List ℕ → Status → List ℕ → Type 0

@@ -11,8 +11,5 @@ returns-in-None-clause-complete g c good =
     (record {
       command = good.command;
       asked = plain_asked _ c.in-None.ensures.none good.command good.asked;
-      text = good.text;
-      held = good.held;
-      short = good.short;
-      good = good.good;
+      served = good.served;
     })

@@ -1,6 +1,6 @@
 use Rattle.std.proofs.Common.{◌≡◌, ℕ, ◌/◌, ◌%◌, ap}
 use Rattle.srs_gen.specs.Draws.{next_state, draw_from}
-use Rattle.srs_gen.proofs.draws.Draws.below.Goals as goal
+use Rattle.srs_gen.proofs.draws.Generator.below.Goals as goal
 
 pub returns-clause-drawn : goal.returns-clause-drawn
 unfolding draw_from
