@@ -1,15 +1,12 @@
 -- What the program owes for an input that was read to its end: a status, and what it writes.
-use Rattle.std.specs.Prelude.{◌≡◌, ◌⊎◌, ⊤, ℕ, List, ◌++◌, Contains, pos, codes}
+use Rattle.std.specs.Prelude.{◌≡◌, ◌⊎◌, ℕ, List, ◌++◌, pos, codes}
 use Rattle.std.specs.Fmt.{signed_decimal}
 use Rattle.srs_plane.specs.declared.polygons.Vertex.{Vertex}
 use Rattle.srs_plane.specs.Polygons.{region_of}
-use Rattle.srs_plane.specs.Regions.{Area}
-use Rattle.srs_path.specs.Views.{Budget, Entry}
-use Rattle.srs_path.specs.Soundness.{IsSound}
+use Rattle.srs_path.specs.Views.{Budget}
 use Rattle.srs_tree.specs.declared.queries.Query.{Query}
-use Rattle.srs_tree.specs.Tree.{History, outcome_at, region_at, IsPartition}
+use Rattle.srs_tree.specs.Tree.{History, outcome_at}
 use Rattle.srs_tree.specs.Legality.{IsLegal}
-use Rattle.srs_tree.specs.Rounds.{IsPlan}
 use Rattle.srs_tree.specs.Fits.{Fits}
 use Rattle.srs_tree.specs.declared.queries.Said.{Said}
 use Rattle.srs_tree.specs.declared.sessions.Segment.{Segment}
@@ -31,6 +28,8 @@ use Rattle.srs_tool.specs.declared.commands.Input.{Input}
 use Rattle.srs_tool.specs.Inputs.{input_of, IsInput, HasFirstSlip, HasCertificate, BringsCertificate}
 use Rattle.srs_tool.specs.Lives.{HasNoMemory, DecidesInRounds, before_certificate}
 use Rattle.srs_tool.specs.Replies.{IsReplyText}
+use Rattle.srs_tool.specs.Plans.{Decides}
+use Rattle.srs_tool.specs.Benches.{IsBenchText}
 use Rattle.srs_tool.specs.Verdicts.{valid_line, fault_line}
 use Rattle.srs_tool.specs.declared.status.Status.{Status}
 use Rattle.srs_tool.specs.declared.status.Status.TheVariants.{Done, Bad, Usage, NoMemory, ReadFault, WriteFault, Refused, TooLong}
@@ -42,13 +41,6 @@ refusal_line line slip = codes "refused line " ++ signed_decimal (pos line) ++ c
 -- the line that refuses an input that is too long
 abbrev pub refused_long : List ℕ
 refused_long = codes "refused long\n"
-
--- H is the plan of the region. Its leaves partition the region, and what each outcome claims holds of its cell: inside,
--- each point is finite; outside, at each point the printed pair recurs; cut, the form divides the cell
-pub record Decides (Root : Area) (b : Budget) (H : History) : Type 0 where
-  pub plan : IsPlan Root b H
-  pub partition : IsPartition Root (outcome_at H)
-  pub sound : (e : Entry) → Contains H e → IsSound (region_at Root (outcome_at H) e.path) b.wits e.outcome
 
 -- the text is the certificate of the polygon: it lists the plan of its region
 pub record IsCertificateOf (vertices : List Vertex) (b : Budget) (text : List ℕ) : Type 0 where
@@ -150,7 +142,7 @@ OwesDone Check text output = Validates text output
 OwesDone (Map columns rows) text output = Draws columns rows text output
 OwesDone Ask text output = Responds text output
 OwesDone (Make s n) text output = IsMadeInput s n output
-OwesDone (Bench s n) text output = ⊤
+OwesDone (Bench s n) text output = IsBenchText s n output
 
 -- what is written, by the status, for the text that was read
 abbrev pub Owes : Command → List ℕ → Status → List ℕ → Type 0

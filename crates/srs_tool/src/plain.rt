@@ -8,6 +8,7 @@ ghost use Rattle.srs_tool.specs.Output.{Owes, EndsWell};
 ghost use Rattle.srs_tool.specs.Ends.{Ends, EndsBy, Reads, IsOverlong, IsCut, IsGoodRun, WritesNothing};
 
 use crate::ask::ask;
+use crate::bench::bench;
 use crate::certify::certify;
 use crate::check::check;
 use crate::commands::{Command, Input};
@@ -121,7 +122,7 @@ fn answer(alloc: Global, command: &Command, input: &[u8]) -> Result<Output, NoMe
         Command::Map(columns, rows) => draw(alloc, *columns, *rows, input),
         Command::Ask => ask(alloc, input),
         Command::Make(s, n) => make(alloc, *s, *n),
-        Command::Bench(_, _) => Err(NoMemory),
+        Command::Bench(s, n) => bench(alloc, *s, *n),
         Command::Live(_, _) => unreachable!(),
     }
 }
