@@ -70,16 +70,3 @@ fn put_question(text: &mut Bytes, r: &Pt) -> Result<(), srs_text::NoMemory>
     let (p, q, d) = r.parts();
     put_line(text, b"point", &[p, q, d])
 }
-
-#[cfg(test)]
-mod trial {
-    use super::make;
-    use std::test::Fail;
-
-    #[test]
-    fn made_input(rt: HostRuntime) -> Result<(), Fail> {
-        let text = make(rt.alloc(), 1, 2)?;
-        assert_eq!(rt; text.as_slice(), b"polygon 3\nge -1 0 1\nge 1 -2 1\ngt 1 2 1\nsession\nat 0\npoint 36 83 64\nsession\nat 3\npoint 16 9 64\nend\n".as_slice());
-        Ok(())
-    }
-}

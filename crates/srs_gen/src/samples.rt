@@ -1,5 +1,6 @@
 // The polygon and the points of a seed.
 ghost use Rattle.std.specs.Prelude.{◌≡◌, ◌<◌, ◌≤◌, ◌*◌, ◌^◌, IfOk};
+ghost use Rattle.srs_plane.specs.Polygons.{IsPolygon};
 ghost use Rattle.srs_gen.specs.Draws.{next_state, state_after};
 ghost use Rattle.srs_gen.specs.Samples.{kind_by, vertex_from, point_from, points_from, made_vertices, made_points};
 
@@ -24,6 +25,7 @@ pub fn made_sample(alloc: Global, s: u32, n: u32) -> Result<Sample, NoMemory>
     requires few { n ≤ 10000 }
     ensures vertices { IfOk result (λ sample. sample.vertices ≡ made_vertices s) }
     ensures points { IfOk result (λ sample. sample.points ≡ made_points s n) }
+    ensures polygon { IfOk result (λ sample. IsPolygon sample.vertices) }
 {
     let mut draws = Generator::new(s);
     let vertices = vertices(&mut draws);

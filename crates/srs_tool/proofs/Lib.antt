@@ -7,3 +7,4 @@ pub mod Living
 pub mod Drawing
 pub mod Replying
 pub mod Reading
+pub mod Benching
