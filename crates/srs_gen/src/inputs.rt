@@ -30,17 +30,13 @@ pub fn make(alloc: Global, s: u32, n: u32) -> Result<Bytes, NoMemory>
 }
 
 // Appends the polygon, the two sessions, and `end`.
-fn put_input(
-    text: &mut Bytes,
-    vertices: &[Vertex],
-    points: &[Pt],
-) -> Result<(), srs_text::NoMemory>
+fn put_input(text: &mut Bytes, vertices: &[Vertex], points: &[Pt]) -> Result<(), srs_text::NoMemory>
     ensures { OnOk result (text.new ≡ text.old ++ input_text vertices.now points.now) }
 {
-    let middle = (points.len() + 1) / 2;
+    let (first, others) = points.split_at((points.len() + 1) / 2);
     put_ring(text, vertices)?;
-    put_session(text, 0, &points[..middle])?;
-    put_session(text, 3, &points[middle..])?;
+    put_session(text, 0, first)?;
+    put_session(text, 3, others)?;
     text.extend(b"end\n")
 }
 

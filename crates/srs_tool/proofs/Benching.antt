@@ -47,8 +47,13 @@ module _ (Root : Area) (T : Tree) where
       let outside : counts.outside ≡ count_by (λ (a : Reply). (kind_of a).outside) c.replies = ap (λ (n : AnswerCounts). n.outside) c.counted in
       let undecided : counts.undecided ≡ count_by (λ (a : Reply). (kind_of a).undecided) c.replies = ap (λ (n : AnswerCounts). n.undecided) c.counted in
       let beyond : counts.beyond ≡ count_by (λ (a : Reply). (kind_of a).beyond) c.replies = ap (λ (n : AnswerCounts). n.beyond) c.counted in
-      omega (arith, count_by-le-length (λ (a : Reply). (kind_of a).inside) c.replies, count_by-le-length (λ (a : Reply). (kind_of a).outside) c.replies,
-      count_by-le-length (λ (a : Reply). (kind_of a).undecided) c.replies, count_by-le-length (λ (a : Reply). (kind_of a).beyond) c.replies)
+      omega (
+        arith,
+        count_by-le-length (λ (a : Reply). (kind_of a).inside) c.replies,
+        count_by-le-length (λ (a : Reply). (kind_of a).outside) c.replies,
+        count_by-le-length (λ (a : Reply). (kind_of a).undecided) c.replies,
+        count_by-le-length (λ (a : Reply). (kind_of a).beyond) c.replies,
+      )
 
   -- one answer more
   pub answer_more : (points : List Point) (r : Point) (reply : Reply) (old new : AnswerCounts) → CountsAnswers Root T points old → Answers Root T r reply

@@ -97,7 +97,10 @@ fn benched_by_others(rt: HostRuntime) -> Result<(), Fail> {
     let certified = play(alloc, "certify 10 1024 256", &[TRIANGLE, b"end\n"])?;
     let certificate = certified.sink.bytes();
     let checked = play(alloc, "check", &[certificate])?;
-    assert_eq!(rt; checked.sink.bytes(), b"valid cells 855 in 17 out 33 cut 427 left 378\n".as_slice());
+    assert_eq!(rt;
+        checked.sink.bytes(),
+        b"valid cells 855 in 17 out 33 cut 427 left 378\n".as_slice()
+    );
     let asked = play(alloc, "ask", &[certificate, questions.as_slice(), b"end\n"])?;
     let said = asked.sink.bytes();
     assert_eq!(rt; lines_with(said, b"in"), 4);

@@ -5,4 +5,5 @@ use Rattle.srs_gen.proofs.Triangles.{made_polygon}
 use Rattle.srs_gen.proofs.samples.made_sample.Goals as goal
 
 pub returns-clause-polygon : goal.returns-clause-polygon
-returns-clause-polygon c = ?
+returns-clause-polygon c =
+    subst (λ (vs : List Vertex). IsPolygon vs) (sym c.vertices-vertices.ensures.vertices) (made_polygon c.new-draws.result)
