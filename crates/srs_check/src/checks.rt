@@ -1,6 +1,6 @@
 // The check of a certificate.
 ghost use Rattle.std.specs.Prelude.{◌≡◌, IfOk, IsNone, IfNone, MatchOption};
-ghost use Rattle.srs_plane.specs.Polygons.{region_of};
+ghost use Rattle.srs_plane.specs.Polygons.{IsPolygon, region_of};
 ghost use Rattle.srs_check.specs.Proving.{IsProved};
 ghost use Rattle.srs_check.specs.Faults.{counts_of, IsChecked, IsFaultOf};
 ghost use Rattle.srs_check.specs.Certified.{IsCertified, Certifies};
@@ -14,7 +14,7 @@ use srs_cell::Cell;
 use srs_cert::Cert;
 use srs_num::NoMemory;
 use srs_path::Outcome;
-use srs_plane::{PolyErr, polygon};
+use srs_plane::{PolyErr, Vertex, polygon};
 use std::alloc::Global;
 
 /// Tests each node in preorder. `Valid` exactly where each proves itself; then the leaves partition the polygon, each cut
@@ -39,7 +39,15 @@ pub(crate) fn root_of(alloc: Global, c: &Cert) -> Result<Cell, NoMemory>
 {
     // The vertices are those of a polygon.
     let _ = c.events();
-    let region = match polygon(alloc, c.vertices()) {
+    polygon_cell(alloc, c.vertices())
+}
+
+/// The cell of the polygon with these vertices. An `Err` is want of memory.
+pub fn polygon_cell(alloc: Global, vertices: &[Vertex]) -> Result<Cell, NoMemory>
+    requires { IsPolygon vertices.now }
+    ensures { IfOk result (λ cell. cell ≡ region_of vertices.now) }
+{
+    let region = match polygon(alloc, vertices) {
         Ok(region) => region,
         Err(PolyErr::NoMemory) => return Err(NoMemory),
         Err(_) => unreachable!(),
@@ -73,8 +81,8 @@ fn first_fault(alloc: Global, c: &Cert, root: Cell) -> Result<Option<(u32, Fault
     Ok(None)
 }
 
-// How many nodes there are, and how many of each kind.
-pub(crate) fn count_nodes(c: &Cert) -> Counts
+/// How many nodes there are, and how many of each kind.
+pub fn count_nodes(c: &Cert) -> Counts
     ensures { result ≡ counts_of c.now.events }
 {
     let mut counts = Counts {

@@ -13,6 +13,6 @@ mod rows;
 mod waiting;
 
 pub use builds::{Built, build};
-pub use checks::check;
+pub use checks::{check, count_nodes, polygon_cell};
 pub use faults::{Checked, Counts, Fault};
 pub use laws::{separates, whole_certificates};

@@ -49,7 +49,9 @@ pub(crate) fn put_head(
     put_limits(out, limits)
 }
 
-fn put_ring(out: &mut Bytes, vertices: &[Vertex]) -> Result<(), NoMemory>
+/// Appends the lines of the polygon with these vertices. An `Err` is want of memory, and leaves a front of them behind what
+/// was there.
+pub fn put_ring(out: &mut Bytes, vertices: &[Vertex]) -> Result<(), NoMemory>
     ensures ok { OnOk result (out.new ≡ out.old ++ ring_text vertices.now) }
     ensures err { OnErr result (StopsIn out.old (ring_text vertices.now) out.new) }
 {

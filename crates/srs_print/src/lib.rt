@@ -7,7 +7,7 @@ mod live;
 mod node;
 mod said;
 
-pub use certificate::put_cert;
-pub use line::put_words;
+pub use certificate::{put_cert, put_ring};
+pub use line::{put_count, put_line, put_words};
 pub use live::put_live;
 pub use said::{put_answer, put_said};

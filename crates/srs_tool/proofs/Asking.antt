@@ -6,7 +6,7 @@ use Rattle.srs_text.proofs.Spellings.{number_once}
 use Rattle.srs_line.specs.Fields.{AreNumbers}
 use Rattle.srs_path.specs.Views.{Budget}
 use Rattle.srs_tool.specs.declared.commands.Command.{Command}
-use Rattle.srs_tool.specs.declared.commands.Command.TheVariants.{Certify, Live, Check, Map, Ask}
+use Rattle.srs_tool.specs.declared.commands.Command.TheVariants.{Certify, Live, Check, Map, Ask, Make, Bench}
 use Rattle.srs_tool.specs.Words.{name_of, numbers_of, SpellsCommand, AsksPlain}
 
 same_numbers : (ts : List (List ℕ)) (ys zs : List ℤ) → AreNumbers ts ys → AreNumbers ts zs → ys ≡ zs
@@ -29,6 +29,14 @@ abbrev drawing : List ℤ → Option Command
 drawing (pos columns ∷ pos rows ∷ []) = Some (Map columns rows)
 drawing _ = None
 
+abbrev making : List ℤ → Option Command
+making (pos s ∷ pos n ∷ []) = Some (Make s n)
+making _ = None
+
+abbrev benching : List ℤ → Option Command
+benching (pos s ∷ pos n ∷ []) = Some (Bench s n)
+benching _ = None
+
 -- the command with this name and these numbers: names differ in the sum of their bytes
 abbrev named : ℕ → List ℤ → Option Command
 named key numbers =
@@ -36,7 +44,9 @@ named key numbers =
     else (if eqb key (sum (codes "live")) then living numbers
     else (if eqb key (sum (codes "check")) then Some Check
     else (if eqb key (sum (codes "map")) then drawing numbers
-    else (if eqb key (sum (codes "ask")) then Some Ask else None)))))
+    else (if eqb key (sum (codes "ask")) then Some Ask
+    else (if eqb key (sum (codes "make")) then making numbers
+    else (if eqb key (sum (codes "bench")) then benching numbers else None)))))))
 
 named_is : (c : Command) → named (sum (name_of c)) (numbers_of c) ≡ Some c
 named_is (Certify limits) = refl
@@ -44,6 +54,8 @@ named_is (Live limits workers) = refl
 named_is Check = refl
 named_is (Map columns rows) = refl
 named_is Ask = refl
+named_is (Make s n) = refl
+named_is (Bench s n) = refl
 
 pub one_command : (words : List (List ℕ)) (c d : Command) → SpellsCommand words c → SpellsCommand words d → c ≡ d
 one_command [] c d h k = absurd h.0
@@ -62,3 +74,5 @@ plain_asked words none (Live limits workers) asked = absurd (none limits workers
 plain_asked words none Check asked = (asked, tt)
 plain_asked words none (Map columns rows) asked = (asked, tt)
 plain_asked words none Ask asked = (asked, tt)
+plain_asked words none (Make s n) asked = (asked, tt)
+plain_asked words none (Bench s n) asked = (asked, tt)

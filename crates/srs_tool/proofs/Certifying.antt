@@ -19,8 +19,8 @@ use Rattle.srs_tree.proofs.PartitionAll.{IsPartition-legal}
 use Rattle.srs_tree.proofs.PlannedSteps.{outcome_of_event}
 use Rattle.srs_cert.specs.Certificates.{IsTextOf, cert_text}
 use Rattle.srs_cert.specs.Lives.{cert_of}
-use Rattle.srs_tool.specs.Lives.{HasNoMemory}
-use Rattle.srs_tool.specs.Output.{Decides, IsPlanCertificateOf, IsCertificateOf}
+use Rattle.srs_tool.specs.Output.{IsPlanCertificateOf, IsCertificateOf}
+use Rattle.srs_tool.specs.Plans.{HasNoMemory, Decides}
 use Rattle.srs_rounds.specs.Refined.{IsRefined}
 
 -- in preorder the events list a whole tree within the limits

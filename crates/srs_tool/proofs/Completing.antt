@@ -2,16 +2,16 @@
 use Rattle.std.proofs.Common.{◌≡◌, inl, inr, ℕ, ◌≤◌, ◌+◌, List, ◌++◌, length, length-append, append-nil, Option, Some, None, refl, sym, ap, subst, ◌∙◌, arith}
 use Rattle.std.specs.Io.KnownBytes.{Consumes, IsAtEnd}
 use Rattle.std.proofs.lemmas.Option.{none-some, same_Some}
-use Rattle.srs_text.specs.Ends.{Rose}
+use Rattle.srs_text.specs.Ends.{Rose, TookJust}
 use Rattle.srs_cert.specs.Certificates.{CertView}
 use Rattle.srs_tool.specs.declared.commands.Command.{Command}
 use Rattle.srs_tool.specs.declared.commands.Input.{Input}
-use Rattle.srs_tool.specs.declared.commands.Input.TheVariants.{Polygon, Sessions, Certificate, Questions}
+use Rattle.srs_tool.specs.declared.commands.Input.TheVariants.{Nothing, Polygon, Sessions, Certificate, Questions}
 use Rattle.srs_tool.specs.declared.status.Status.{Status}
 use Rattle.srs_tool.specs.declared.status.Status.TheVariants.{Done, Bad, Usage, NoMemory, ReadFault, WriteFault, Refused, TooLong}
 use Rattle.srs_tool.specs.Inputs.{input_of, longest, IsInput, HasCertificate, BringsCertificate}
 use Rattle.srs_tool.specs.Output.{EndsWell}
-use Rattle.srs_tool.specs.Ends.{EndsAs, IsOverlong, EndsBy, Ends, IsGoodRun}
+use Rattle.srs_tool.specs.Ends.{ReadsToEnd, Reads, EndsAs, IsOverlong, EndsBy, HoldsInput, Serves, Ends, IsGoodRun}
 
 -- what was read to the end is what was there
 same_input : (left left_after : Option (List ℕ)) (input bytes : List ℕ) → left ≡ Some input → Consumes left left_after bytes → IsAtEnd left_after → bytes ≡ input
@@ -29,19 +29,41 @@ took_within (Some xs) (Some ys) input bytes held taken =
 
 -- an input with a certificate is one that is checked
 has_checked : (input : Input) (text : List ℕ) (c : CertView) → HasCertificate input text c → BringsCertificate input
+has_checked Nothing text c has = absurd has
 has_checked Polygon text c has = absurd has
 has_checked Sessions text c has = absurd has
 has_checked Certificate text c has = tt
 has_checked Questions text c has = tt
 
-module _ (c : Command) (left left_after got got_after : Option (List ℕ)) (text : List ℕ) (held : left ≡ Some text)
-    (short : length text ≤ longest (input_of c)) (good : IsInput (input_of c) text) where
-  refusal_fails : EndsAs c Refused left left_after got got_after → ⊥
-  refusal_fails a = a.owed.no_input
-      (subst (IsInput (input_of c)) (sym (same_input left left_after text a.text held a.read.taken a.read.end)) good)
+end_good : (input : Input) (left left_after : Option (List ℕ)) (text : List ℕ) → HoldsInput input left → ReadsToEnd input left left_after text
+    → IsInput input text
+end_good input left left_after text holds read =
+    subst (IsInput input) (sym (same_input left left_after holds.text text holds.held read.taken read.end)) holds.good
 
-  overrun_fails : IsOverlong (input_of c) left left_after → ⊥
-  overrun_fails over = absurd (omega (arith, took_within left left_after text over.0 held over.1, over.2, short))
+-- where the source serves, what is read is such an input
+read_good : (input : Input) (left left_after : Option (List ℕ)) (text : List ℕ) → Serves input left → Reads input left left_after text
+    → IsInput input text
+read_good Nothing left left_after text served read = read.0
+read_good Polygon left left_after text served read = end_good Polygon left left_after text served read
+read_good Sessions left left_after text served read = end_good Sessions left left_after text served read
+read_good Certificate left left_after text served read = end_good Certificate left left_after text served read
+read_good Questions left left_after text served read = end_good Questions left left_after text served read
+
+too_much : (input : Input) (left left_after : Option (List ℕ)) → HoldsInput input left → TookJust left left_after (longest input + 1) → ⊥
+too_much input left left_after holds over =
+    absurd (omega (arith, took_within left left_after holds.text over.0 holds.held over.1, over.2, holds.short))
+
+-- where the source serves, it has no more than such an input may have
+overrun_fails : (input : Input) (left left_after : Option (List ℕ)) → Serves input left → IsOverlong input left left_after → ⊥
+overrun_fails Nothing left left_after served over = over
+overrun_fails Polygon left left_after served over = too_much Polygon left left_after served over
+overrun_fails Sessions left left_after served over = too_much Sessions left left_after served over
+overrun_fails Certificate left left_after served over = too_much Certificate left left_after served over
+overrun_fails Questions left left_after served over = too_much Questions left left_after served over
+
+module _ (c : Command) (left left_after got got_after : Option (List ℕ)) (served : Serves (input_of c) left) where
+  refusal_fails : EndsAs c Refused left left_after got got_after → ⊥
+  refusal_fails a = a.owed.no_input (read_good (input_of c) left left_after a.text served a.read)
 
   ends_well : (result : Status) (reads reads_after writes writes_after : ℕ)
       → EndsBy c result left left_after reads reads_after got got_after writes writes_after
@@ -53,7 +75,7 @@ module _ (c : Command) (left left_after got got_after : Option (List ℕ)) (text
   ends_well ReadFault r s w v end no_read no_write = absurd (no_read end.0)
   ends_well WriteFault r s w v end no_read no_write = absurd (no_write end.0)
   ends_well Refused r s w v end no_read no_write = absurd (refusal_fails end)
-  ends_well TooLong r s w v end no_read no_write = absurd (overrun_fails end.0)
+  ends_well TooLong r s w v end no_read no_write = absurd (overrun_fails (input_of c) left left_after served end.0)
 
 -- where words ask for one command, a good run of it ends well
 pub completes : (Asking : List (List ℕ) → Command → Type 0) (words : List (List ℕ)) (left left_after got got_after : Option (List ℕ))
@@ -64,5 +86,5 @@ pub completes : (Asking : List (List ℕ) → Command → Type 0) (words : List 
 completes Asking words left left_after got got_after one good result reads reads_after writes writes_after ends no_read no_write =
     let same : ends.command ≡ good.command = one ends.command good.command ends.asked good.asked in
     let P : Command → Type 0 = λ d. EndsBy d result left left_after reads reads_after got got_after writes writes_after in
-    ends_well good.command left left_after got got_after good.text good.held good.short good.good
+    ends_well good.command left left_after got got_after good.served
     result reads reads_after writes writes_after (subst P same ends.end) no_read no_write

@@ -6,3 +6,5 @@ pub mod Certifying
 pub mod Living
 pub mod Drawing
 pub mod Replying
+pub mod Reading
+pub mod Benching

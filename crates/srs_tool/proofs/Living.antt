@@ -18,7 +18,8 @@ use Rattle.srs_tree.proofs.PartitionAll.{IsPartition-first}
 use Rattle.srs_cert.specs.Certificates.{CertView, IsCertificate, cert_text}
 use Rattle.srs_cert.specs.Lives.{cert_of, live_text, IsLiveTextOf, LiveTextIsOne}
 use Rattle.srs_crew.specs.Runs.{IsRun}
-use Rattle.srs_tool.specs.Lives.{HasNoMemory, DecidesInRounds}
+use Rattle.srs_tool.specs.Plans.{HasNoMemory}
+use Rattle.srs_tool.specs.Lives.{DecidesInRounds}
 use Rattle.srs_tool.specs.Output.{IsPlanCertificateOf, EndsWithCertificate, IsLiveRunOf}
 use Rattle.srs_tool.proofs.Certifying.{events_sound, planned_text, one_certificate_of}
 

@@ -13,7 +13,7 @@ use Rattle.srs_tool.specs.declared.status.Status.TheVariants.{Done, Bad, Usage, 
 use Rattle.srs_tool.specs.Inputs.{input_of, IsInput, HasFirstSlip, HasCertificate}
 use Rattle.srs_tool.specs.Verdicts.{fault_line}
 use Rattle.srs_tool.specs.Output.{Owes, refusal_line, refused_long}
-use Rattle.srs_tool.specs.Ends.{ReadsToEnd, IsOverlong, EndsBy, Says}
+use Rattle.srs_tool.specs.Ends.{Reads, IsOverlong, EndsBy, Says}
 
 -- an output of this status and text, where there is one, is what is owed
 pub owed_as : {E : Type 0} (command : Command) (text : List ℕ) (status : Status) (written : List ℕ) (r : Result Output E) → Owes command text status written
@@ -38,7 +38,7 @@ owed_fault command text c line fault r has first is =
 
 -- where the source was read to its end and what is owed for that was said, the command has ended so
 pub said : (c : Command) (text : List ℕ) (status : Status) (output : List ℕ) (result : Status) (left left_after : Option (List ℕ)) (reads reads_after : ℕ)
-    (got got_after : Option (List ℕ)) (writes writes_after : ℕ) → ReadsToEnd (input_of c) left left_after text → Owes c text status output
+    (got got_after : Option (List ℕ)) (writes writes_after : ℕ) → Reads (input_of c) left left_after text → Owes c text status output
     → Says status result got got_after writes writes_after output
     → EndsBy c result left left_after reads reads_after got got_after writes writes_after
 said c text Done output result l m r s g h w v read owed (inl (e, all)) = rw e (record { text = text; read = read; output = output; owed = owed; written = all })

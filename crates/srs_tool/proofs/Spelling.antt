@@ -5,7 +5,7 @@ use Rattle.srs_line.specs.Fields.{AreNumbers}
 use Rattle.srs_path.specs.Views.{Budget, IsBudget}
 use Rattle.srs_tool.specs.declared.commands.Command.{Command}
 use Rattle.srs_tool.specs.declared.commands.Command.TheVariants.{Certify, Live, Map}
-use Rattle.srs_tool.specs.Words.{limits_numbers, name_of, numbers_of, IsSide, SpellsCrew, SpellsCommand}
+use Rattle.srs_tool.specs.Words.{limits_numbers, name_of, numbers_of, IsSide, SpellsCrew, sample_numbers, SpellsSample, AsksForSample, SpellsCommand}
 
 -- what holds anyway holds of none
 pub if_none : {X Q : Type 0} (r : Option X) → Q → IfNone r Q
@@ -53,3 +53,16 @@ pub no_order : {X : Type 0} (words : List (List ℕ)) (first depth cells wits wo
 no_order words first depth cells wits workers None is out =
     λ b n asked. let a = subst (λ (ws : List (List ℕ)). SpellsCommand ws (Live b n)) is asked in out b n (a.0.1, a.1)
 no_order words first depth cells wits workers (Some x) is out = tt
+
+-- where they spell no seed and number of points, they don't ask for a sample by this name
+pub no_sample : {X : Type 0} (words : List (List ℕ)) (name first seed points : List ℕ) (r : Option X) → words ≡ first ∷ seed ∷ points ∷ []
+    → IfNone r ((s n : ℕ) → SpellsSample (seed ∷ points ∷ []) s n → ⊥)
+    → IfNone r ((s n : ℕ) → AsksForSample words name s n → ⊥)
+no_sample words name first seed points None is out =
+    λ s n asked. let a = subst (λ (ws : List (List ℕ)). AsksForSample ws name s n) is asked in out s n (a.0.1, a.1)
+no_sample words name first seed points (Some x) is out = tt
+
+-- there are three words
+pub sample_length : (words : List (List ℕ)) (name : List ℕ) (s n : ℕ) → AsksForSample words name s n → length words ≡ 3
+sample_length [] name s n asked = absurd asked.0
+sample_length (first ∷ others) name s n asked = ap (λ (n : ℕ). suc n) (numbers_length others (sample_numbers s n) asked.0.1)

@@ -3,6 +3,8 @@ pub mod Inputs
 pub mod Verdicts
 pub mod Replies
 pub mod Lives
+pub mod Plans
+pub mod Benches
 pub mod Output
 pub mod Ends
 pub mod Exit

@@ -1,8 +1,6 @@
 -- What `live` decides, in which order, and what it writes before its certificate.
-use Rattle.std.specs.Prelude.{◌≢◌, ℕ, List, ◌++◌, take, Contains, codes}
+use Rattle.std.specs.Prelude.{ℕ, List, ◌++◌, take, Contains, codes}
 use Rattle.srs_plane.specs.Regions.{Area}
-use Rattle.srs_path.specs.declared.outcomes.Outcome.TheVariants.{Left}
-use Rattle.srs_path.specs.declared.outcomes.Cause.TheVariants.{Memory}
 use Rattle.srs_path.specs.Views.{Budget, Entry}
 use Rattle.srs_path.specs.Soundness.{IsSound}
 use Rattle.srs_tree.specs.Tree.{History, outcome_at, region_at, IsPartition}
@@ -10,10 +8,6 @@ use Rattle.srs_tree.specs.Rounds.{IsWhole, IsInRounds}
 use Rattle.srs_tree.specs.declared.queries.Said.{Said}
 use Rattle.srs_cert.specs.Texts.{ended, count_text}
 use Rattle.srs_cert.specs.Lives.{journal_text, sessions_text}
-
--- no cell of H was left for want of memory
-abbrev pub HasNoMemory : History → Type 0
-HasNoMemory H = (e : Entry) → Contains H e → e.outcome ≢ Left Memory
 
 -- H is whole within the limits, and in rounds. At each beginning of H its leaves partition the
 -- region, and what each outcome claims holds of its cell: inside, each point is finite; outside, at

@@ -1,15 +1,13 @@
 -- What the program owes for an input that was read to its end: a status, and what it writes.
-use Rattle.std.specs.Prelude.{◌≡◌, ◌⊎◌, ℕ, List, ◌++◌, Contains, pos, codes}
+use Rattle.std.specs.Prelude.{◌≡◌, ◌⊎◌, ℕ, List, ◌++◌, pos, codes}
 use Rattle.std.specs.Fmt.{signed_decimal}
 use Rattle.srs_plane.specs.declared.polygons.Vertex.{Vertex}
 use Rattle.srs_plane.specs.Polygons.{region_of}
-use Rattle.srs_plane.specs.Regions.{Area}
-use Rattle.srs_path.specs.Views.{Budget, Entry}
-use Rattle.srs_path.specs.Soundness.{IsSound}
+use Rattle.srs_path.specs.Views.{Budget}
 use Rattle.srs_tree.specs.declared.queries.Query.{Query}
-use Rattle.srs_tree.specs.Tree.{History, outcome_at, region_at, IsPartition}
+use Rattle.srs_tree.specs.Tree.{History, outcome_at}
 use Rattle.srs_tree.specs.Legality.{IsLegal}
-use Rattle.srs_tree.specs.Rounds.{IsWhole, IsPlan}
+use Rattle.srs_tree.specs.Rounds.{IsPlan}
 use Rattle.srs_tree.specs.Fits.{Fits}
 use Rattle.srs_tree.specs.declared.queries.Said.{Said}
 use Rattle.srs_tree.specs.declared.sessions.Segment.{Segment}
@@ -23,12 +21,16 @@ use Rattle.srs_check.specs.Proving.{IsProved}
 use Rattle.srs_check.specs.Faults.{counts_of, IsFirstFault}
 use Rattle.srs_check.specs.Certified.{IsCertified}
 use Rattle.srs_raster.specs.Maps.{IsMapText}
+use Rattle.srs_gen.specs.Samples.{made_vertices}
+use Rattle.srs_gen.specs.Inputs.{made_script, made_text}
 use Rattle.srs_tool.specs.declared.commands.Command.{Command}
-use Rattle.srs_tool.specs.declared.commands.Command.TheVariants.{Certify, Live, Check, Map, Ask}
+use Rattle.srs_tool.specs.declared.commands.Command.TheVariants.{Certify, Live, Check, Map, Ask, Make, Bench}
 use Rattle.srs_tool.specs.declared.commands.Input.{Input}
 use Rattle.srs_tool.specs.Inputs.{input_of, IsInput, HasFirstSlip, HasCertificate, BringsCertificate}
-use Rattle.srs_tool.specs.Lives.{HasNoMemory, DecidesInRounds, before_certificate}
+use Rattle.srs_tool.specs.Lives.{DecidesInRounds, before_certificate}
 use Rattle.srs_tool.specs.Replies.{IsReplyText}
+use Rattle.srs_tool.specs.Plans.{HasNoMemory, Decides}
+use Rattle.srs_tool.specs.Benches.{IsBenchText}
 use Rattle.srs_tool.specs.Verdicts.{valid_line, fault_line}
 use Rattle.srs_tool.specs.declared.status.Status.{Status}
 use Rattle.srs_tool.specs.declared.status.Status.TheVariants.{Done, Bad, Usage, NoMemory, ReadFault, WriteFault, Refused, TooLong}
@@ -40,14 +42,6 @@ refusal_line line slip = codes "refused line " ++ signed_decimal (pos line) ++ c
 -- the line that refuses an input that is too long
 abbrev pub refused_long : List ℕ
 refused_long = codes "refused long\n"
-
--- H is whole within the limits: the plan of the region, where no cell was left for want of memory. Its
--- leaves partition the region, and what each outcome claims holds of its cell: inside, each point is
--- finite; outside, at each point the printed pair recurs; cut, the form divides the cell
-pub record Decides (Root : Area) (b : Budget) (H : History) : Type 0 where
-  pub whole : IsWhole Root b H
-  pub partition : IsPartition Root (outcome_at H)
-  pub sound : (e : Entry) → Contains H e → IsSound (region_at Root (outcome_at H) e.path) b.wits e.outcome
 
 -- the text is the certificate of the plan of the polygon's region
 pub record IsPlanCertificateOf (vertices : List Vertex) (b : Budget) (text : List ℕ) : Type 0 where
@@ -145,6 +139,11 @@ pub record Refuses (input : Input) (text output : List ℕ) : Type 0 where
   pub no_input : IsInput input text → ⊥
   pub written : output ≡ refusal_line line slip
 
+-- the text is the input of `live` that the seed s gives with n points
+pub record IsMadeInput (s n : ℕ) (text : List ℕ) : Type 0 where
+  pub made : text ≡ made_text s n
+  pub spelled : SpellsLive text (made_vertices s) (made_script s n)
+
 -- what is written at Done
 abbrev pub OwesDone : Command → List ℕ → List ℕ → Type 0
 OwesDone (Certify limits) text output = Certifies limits text output
@@ -152,6 +151,8 @@ OwesDone (Live limits workers) text output = RunsLive limits text output
 OwesDone Check text output = Validates text output
 OwesDone (Map columns rows) text output = Draws columns rows text output
 OwesDone Ask text output = Responds text output
+OwesDone (Make s n) text output = IsMadeInput s n output
+OwesDone (Bench s n) text output = IsBenchText s n output
 
 -- what is written, by the status, for the text that was read
 abbrev pub Owes : Command → List ℕ → Status → List ℕ → Type 0

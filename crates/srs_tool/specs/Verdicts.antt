@@ -5,11 +5,15 @@ use Rattle.srs_check.specs.declared.faults.Counts.{Counts}
 use Rattle.srs_check.specs.declared.faults.Fault.{Fault}
 use Rattle.srs_check.specs.declared.faults.Fault.TheVariants.{NoUnit, NotClosed, NoFall, NotCycle, NotProper, NoBudget}
 
+-- how many nodes there are, and how many of each kind
+abbrev pub counts_line : Counts → List ℕ
+counts_line n =
+    line_of (codes "cells") (pos n.cells ∷ []) ++ line_of (codes " in") (pos n.inside ∷ []) ++ line_of (codes " out") (pos n.outside ∷ [])
+    ++ line_of (codes " cut") (pos n.cut ∷ []) ++ line_of (codes " left") (pos n.left ∷ []) ++ codes "\n"
+
 -- each node proves itself, and how many there are of each kind
 abbrev pub valid_line : Counts → List ℕ
-valid_line n =
-    line_of (codes "valid cells") (pos n.cells ∷ []) ++ line_of (codes " in") (pos n.inside ∷ []) ++ line_of (codes " out") (pos n.outside ∷ [])
-    ++ line_of (codes " cut") (pos n.cut ∷ []) ++ line_of (codes " left") (pos n.left ∷ []) ++ codes "\n"
+valid_line n = codes "valid " ++ counts_line n
 
 -- what is wrong with a node
 abbrev pub fault_text : Fault → List ℕ

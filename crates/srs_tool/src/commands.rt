@@ -18,6 +18,11 @@ pub enum Command {
     Map(u32, u32),
     /// To check the certificate that is read, and answer the questions behind it.
     Ask,
+    /// To print the input of `live` that the seed gives with so many points. The seed is below 2^31, the points are at most
+    /// 10000.
+    Make(u32, u32),
+    /// To certify the polygon of that input, answer its points, and print how many cells and points there are of each kind.
+    Bench(u32, u32),
 }
 
 impl Command {
@@ -30,6 +35,7 @@ impl Command {
             Command::Live(_, _) => Input::Sessions,
             Command::Check | Command::Map(_, _) => Input::Certificate,
             Command::Ask => Input::Questions,
+            Command::Make(_, _) | Command::Bench(_, _) => Input::Nothing,
         }
     }
 }
@@ -37,6 +43,8 @@ impl Command {
 /// What is read.
 #[derive(Clone, Copy, Drop)]
 pub enum Input {
+    /// Nothing: the source is left as it is.
+    Nothing,
     /// A polygon: at most 2^20 bytes.
     Polygon,
     /// A polygon and sessions behind it, of which there are none yet: at most 2^20 bytes.
@@ -53,6 +61,7 @@ impl Input {
         ensures { result ≡ longest self }
     {
         match self {
+            Input::Nothing => 0,
             Input::Polygon | Input::Sessions => 1 << 20,
             Input::Certificate | Input::Questions => 1 << 27,
         }

@@ -1,6 +1,6 @@
 // What is written where that is one line: a refusal, a fault, or the numbers of nodes.
 ghost use Rattle.std.specs.Prelude.{◌≡◌, ◌++◌, IfOk, OnOk};
-ghost use Rattle.srs_tool.specs.Verdicts.{valid_line, fault_text, fault_line};
+ghost use Rattle.srs_tool.specs.Verdicts.{counts_line, valid_line, fault_text, fault_line};
 ghost use Rattle.srs_tool.specs.Output.{refusal_line};
 
 use crate::output::Output;
@@ -55,13 +55,21 @@ fn valid_line(alloc: Global, counts: &Counts) -> Result<Bytes, srs_text::NoMemor
     ensures { IfOk result (λ text. text ≡ valid_line counts.now) }
 {
     let mut text = Bytes::new(alloc);
-    put_words(&mut text, b"valid cells", &[counts.cells as i64])?;
-    put_words(&mut text, b" in", &[counts.inside as i64])?;
-    put_words(&mut text, b" out", &[counts.outside as i64])?;
-    put_words(&mut text, b" cut", &[counts.cut as i64])?;
-    put_words(&mut text, b" left", &[counts.left as i64])?;
-    text.extend(b"\n")?;
+    text.extend(b"valid ")?;
+    put_counts(&mut text, counts)?;
     Ok(text)
+}
+
+/// Appends the line that says how many nodes there are, and how many of each kind.
+pub fn put_counts(text: &mut Bytes, counts: &Counts) -> Result<(), srs_text::NoMemory>
+    ensures { OnOk result (text.new ≡ text.old ++ counts_line counts.now) }
+{
+    put_words(text, b"cells", &[counts.cells as i64])?;
+    put_words(text, b" in", &[counts.inside as i64])?;
+    put_words(text, b" out", &[counts.outside as i64])?;
+    put_words(text, b" cut", &[counts.cut as i64])?;
+    put_words(text, b" left", &[counts.left as i64])?;
+    text.extend(b"\n")
 }
 
 fn fault_line(alloc: Global, line: u32, fault: &Fault) -> Result<Bytes, srs_text::NoMemory>

@@ -1,22 +1,24 @@
 // The top call of the commands that start no thread.
-ghost use Rattle.std.specs.Prelude.{◌≡◌, ◌≢◌, ◌⊎◌, ◌≤◌, length, map, string_bytes, IfOk, IfErr};
+ghost use Rattle.std.specs.Prelude.{◌≡◌, ◌≢◌, ◌⊎◌, ◌≤◌, length, map, string_bytes, IfOk, IsErrOf};
 ghost use Rattle.srs_text.specs.Ends.{Rose};
 ghost use Rattle.srs_tool.specs.declared.commands.Command.{Command};
 ghost use Rattle.srs_tool.specs.Words.{AsksPlain, IsPlain, IsInBounds};
 ghost use Rattle.srs_tool.specs.Inputs.{input_of, longest};
 ghost use Rattle.srs_tool.specs.Output.{Owes, EndsWell};
-ghost use Rattle.srs_tool.specs.Ends.{Ends, EndsBy, IsGoodRun, WritesNothing};
+ghost use Rattle.srs_tool.specs.Ends.{Ends, EndsBy, Reads, IsOverlong, IsCut, IsGoodRun, WritesNothing};
 
 use crate::ask::ask;
+use crate::bench::bench;
 use crate::certify::certify;
 use crate::check::check;
-use crate::commands::Command;
+use crate::commands::{Command, Input};
+use crate::make::make;
 use crate::map::draw;
 use crate::output::{Output, say};
 use crate::status::Status;
 use crate::words::plain_command;
 use srs_num::NoMemory;
-use srs_text::{ReadErr, Sink, Source, read_all};
+use srs_text::{Bytes, ReadErr, Sink, Source, read_all};
 use std::alloc::Global;
 
 /// Does what the words ask for, where that starts no thread: reads the source, and writes to the sink. The words of `live`
@@ -47,6 +49,8 @@ pub fn plain<S: Source, K: Sink>(
         (S.left source.old) (S.left source.new) (S.faults source.old) (S.faults source.new)
         (K.got sink.old) (K.got sink.new) (K.faults sink.old) (K.faults sink.new) }
     ensures unwritten { WritesNothing result → sink.new ≡ sink.old }
+    ensures unread { (command : Command) → AsksPlain (map string_bytes words.now) command →
+        input_of command ≡ Input.Nothing → source.new ≡ source.old }
     ensures complete { (good : IsGoodRun AsksPlain (map string_bytes words.now)
         (S.left source.old)) →
         ¬ (Rose (S.faults source.old) (S.faults source.new)) →
@@ -58,7 +62,7 @@ pub fn plain<S: Source, K: Sink>(
     }
 }
 
-// Reads the source to its end, and answers for what it gave.
+// Reads what the command reads, and answers for that.
 fn read_and_answer<S: Source, K: Sink>(
     alloc: Global,
     command: &Command,
@@ -72,8 +76,9 @@ fn read_and_answer<S: Source, K: Sink>(
         (S.left source.old) (S.left source.new) (S.faults source.old) (S.faults source.new)
         (K.got sink.old) (K.got sink.new) (K.faults sink.old) (K.faults sink.new) }
     ensures unwritten { WritesNothing result → sink.new ≡ sink.old }
+    ensures unread { input_of command.now ≡ Input.Nothing → source.new ≡ source.old }
 {
-    match read_all(alloc, source, command.input().longest()) {
+    match read_input(alloc, command.input(), source) {
         Ok(input) => match answer(alloc, command, input.as_slice()) {
             Ok(output) => say(output.status, sink, output.text.as_slice()),
             Err(NoMemory) => Status::NoMemory,
@@ -84,7 +89,27 @@ fn read_and_answer<S: Source, K: Sink>(
     }
 }
 
-// What is owed for an input that was read to its end. An `Err` is want of memory.
+// Reads such an input: all that the source has, or nothing.
+fn read_input<S: Source>(alloc: Global, input: Input, source: &mut S) -> Result<Bytes, ReadErr>
+    ensures reads { IfOk result (Reads input (S.left source.old) (S.left source.new)) }
+    ensures short { IfOk result (λ text. length text ≤ longest input) }
+    ensures long { IsErrOf result ReadErr.TooLong →
+        IsOverlong input (S.left source.old) (S.left source.new) }
+    ensures fault { IsErrOf result ReadErr.Fault →
+        Rose (S.faults source.old) (S.faults source.new) }
+    ensures cut { IsErrOf result ReadErr.Fault →
+        IsCut input (S.left source.old) (S.left source.new) }
+    ensures unread { input ≡ Input.Nothing → source.new ≡ source.old }
+{
+    match input {
+        Input::Nothing => Ok(Bytes::new(alloc)),
+        Input::Polygon | Input::Sessions | Input::Certificate | Input::Questions => {
+            read_all(alloc, source, input.longest())
+        }
+    }
+}
+
+// What is owed for what was read. An `Err` is want of memory.
 fn answer(alloc: Global, command: &Command, input: &[u8]) -> Result<Output, NoMemory>
     requires range { IsInBounds command.now }
     requires plain { IsPlain command.now }
@@ -96,6 +121,8 @@ fn answer(alloc: Global, command: &Command, input: &[u8]) -> Result<Output, NoMe
         Command::Check => check(alloc, input),
         Command::Map(columns, rows) => draw(alloc, *columns, *rows, input),
         Command::Ask => ask(alloc, input),
+        Command::Make(s, n) => make(alloc, *s, *n),
+        Command::Bench(s, n) => bench(alloc, *s, *n),
         Command::Live(_, _) => unreachable!(),
     }
 }

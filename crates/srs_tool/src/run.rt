@@ -4,6 +4,7 @@ ghost use Rattle.srs_text.specs.Ends.{Rose};
 ghost use Rattle.srs_tool.specs.declared.commands.Command.{Command};
 ghost use Rattle.srs_tool.specs.declared.commands.Command.TheVariants.{Live};
 ghost use Rattle.srs_tool.specs.Words.{IsCrew, SpellsCommand};
+ghost use Rattle.srs_tool.specs.Inputs.{input_of};
 ghost use Rattle.srs_tool.specs.Output.{EndsWell};
 ghost use Rattle.srs_tool.specs.Ends.{Ends, EndsBy, IsGoodRun, WritesNothing};
 
@@ -49,6 +50,8 @@ pub fn run<R: Threads + Wait + Sync, S: Source, K: Sink, G: Gate>(
         (S.left source.old) (S.left source.new) (S.faults source.old) (S.faults source.new)
         (K.got sink.old) (K.got sink.new) (K.faults sink.old) (K.faults sink.new) }
     ensures unwritten { WritesNothing result → sink.new ≡ sink.old }
+    ensures unread { (command : Command) → SpellsCommand (map string_bytes words.now) command →
+        input_of command ≡ Input.Nothing → source.new ≡ source.old }
     ensures complete { (good : IsGoodRun SpellsCommand (map string_bytes words.now) (S.left source.old)) →
         ¬ (Rose (S.faults source.old) (S.faults source.new)) →
         ¬ (Rose (K.faults sink.old) (K.faults sink.new)) → EndsWell good.command result }

@@ -10,7 +10,7 @@ use std::test::Fail;
 const CYCLE_ONE: &[u8] = b"polygon 3\nge -2 -1 4\nge -1 -2 4\nge -1 -1 4\nend\n";
 
 // Words in no form, and those of `live`, which `plain` does not know.
-const UNKNOWN: [&str; 30] = [
+const UNKNOWN: [&str; 42] = [
     "certify 0 1 0",
     "certify 0 1 16385",
     "certify 0 1 016",
@@ -39,6 +39,18 @@ const UNKNOWN: [&str; 30] = [
     "Ask",
     "ask map 4 4",
     "live 0 1 16 1",
+    "make",
+    "make 1",
+    "make 1 2 3",
+    "make 2147483648 0",
+    "make 0 10001",
+    "make -1 0",
+    "make 01 0",
+    "Make 0 0",
+    "bench",
+    "bench 2147483648 0",
+    "bench 0 10001",
+    "bench 0 00",
     "",
     "--help",
 ];

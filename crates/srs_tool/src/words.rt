@@ -1,11 +1,11 @@
 // The words of the command line.
-ghost use Rattle.std.specs.Prelude.{◌≡◌, ◌↔◌, IsTrue, List, ℕ, [], ◌∷◌, map, pos, ◌<◌, ◌^◌, string_bytes, IfSome, IfNone};
+ghost use Rattle.std.specs.Prelude.{◌≡◌, ◌↔◌, IsTrue, List, ℕ, [], ◌∷◌, map, pos, ◌<◌, ◌≤◌, ◌^◌, string_bytes, IfSome, IfNone};
 ghost use Rattle.srs_text.specs.Spelling.{IsNumber};
 ghost use Rattle.srs_path.specs.Views.{Budget, IsBudget};
 ghost use Rattle.srs_line.specs.Fields.{AreNumbers};
 ghost use Rattle.srs_tool.specs.declared.commands.Command.{Command};
 ghost use Rattle.srs_tool.specs.declared.commands.Command.TheVariants.{Certify, Live, Map};
-ghost use Rattle.srs_tool.specs.Words.{limits_numbers, IsSide, IsCrew, SpellsCrew, SpellsCommand, AsksPlain};
+ghost use Rattle.srs_tool.specs.Words.{limits_numbers, IsSide, IsCrew, SpellsCrew, SpellsSample, AsksForSample, SpellsCommand, AsksPlain};
 
 use crate::commands::Command;
 use srs_path::Limits;
@@ -25,6 +25,12 @@ pub fn plain_command(words: &[String]) -> Option<Command>
     }
     if let Some((columns, rows)) = map_size(words) {
         return Some(Command::Map(columns, rows));
+    }
+    if let Some((s, n)) = sample_size(words, "make") {
+        return Some(Command::Make(s, n));
+    }
+    if let Some((s, n)) = sample_size(words, "bench") {
+        return Some(Command::Bench(s, n));
     }
     match certify_limits(words) {
         Some(limits) => Some(Command::Certify(limits)),
@@ -131,6 +137,45 @@ fn side_of(text: &[u8]) -> Option<u32>
     Some(n as u32)
 }
 
+// The seed and the number of points behind the name.
+fn sample_size(words: &[String], name: &str) -> Option<(u32, u32)>
+    ensures some { IfSome result (λ r.
+        AsksForSample (map string_bytes words.now) name.now r.0 r.1) }
+    ensures none { IfNone result ((s n : ℕ) →
+        AsksForSample (map string_bytes words.now) name.now s n → ⊥) }
+{
+    let [first, seed, points] = words else {
+        return None;
+    };
+    if !is_word(first.as_str(), name) {
+        return None;
+    }
+    seed_and_points(seed.as_bytes(), points.as_bytes())
+}
+
+// The seed and the number of points that two words spell.
+fn seed_and_points(seed: &[u8], points: &[u8]) -> Option<(u32, u32)>
+    ensures some { IfSome result (λ r. SpellsSample (seed.now ∷ points.now ∷ []) r.0 r.1) }
+    ensures none { IfNone result ((s n : ℕ) →
+        SpellsSample (seed.now ∷ points.now ∷ []) s n → ⊥) }
+{
+    let s = small_number(seed, (1 << 31) - 1)?;
+    let n = small_number(points, 10_000)?;
+    Some((s, n))
+}
+
+// A number from 0 to the most.
+fn small_number(text: &[u8], most: u32) -> Option<u32>
+    ensures some { IfSome result (λ n. IsNumber text.now (pos n) × (n ≤ most)) }
+    ensures none { IfNone result ((n : ℕ) → IsNumber text.now (pos n) → n ≤ most → ⊥) }
+{
+    let n = number(text)?;
+    if n < 0 || n > most as i64 {
+        return None;
+    }
+    Some(n as u32)
+}
+
 // The limits behind `certify`.
 fn certify_limits(words: &[String]) -> Option<Limits>
     ensures some { IfSome result (λ b. SpellsCommand (map string_bytes words.now) (Certify b)) }
@@ -164,9 +209,5 @@ fn count_of(text: &[u8]) -> Option<u32>
     ensures some { IfSome result (λ n. IsNumber text.now (pos n)) }
     ensures none { IfNone result ((n : ℕ) → n < 2 ^ 32 → IsNumber text.now (pos n) → ⊥) }
 {
-    let n = number(text)?;
-    if n < 0 || n > u32::MAX as i64 {
-        return None;
-    }
-    Some(n as u32)
+    small_number(text, u32::MAX)
 }

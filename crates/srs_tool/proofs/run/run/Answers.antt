@@ -1,5 +1,20 @@
-use Rattle.srs_tool.proofs.Asking.{plain_asked}
+use Rattle.std.proofs.Common.{◌≡◌, subst}
+use Rattle.srs_tool.specs.declared.commands.Command.{Command}
+use Rattle.srs_tool.specs.declared.commands.Command.TheVariants.{Live}
+use Rattle.srs_tool.specs.declared.commands.Input.TheVariants.{Nothing, Sessions}
+use Rattle.srs_tool.specs.Inputs.{input_of}
+use Rattle.srs_tool.proofs.Asking.{one_command, plain_asked}
 use Rattle.srs_tool.proofs.run.run.Goals as goal
+
+pub returns-in-Some-clause-unread : goal.returns-in-Some-clause-unread
+returns-in-Some-clause-unread g c command asked none =
+    let live : Command = Live c.in-Some.limits c.in-Some.workers in
+    let reads : Sessions ≡ Nothing = subst (λ (d : Command). input_of d ≡ Nothing) (one_command _ command live asked c.in-Some.ensures.some) none in
+    absurd cc
+
+pub returns-in-None-clause-unread : goal.returns-in-None-clause-unread
+returns-in-None-clause-unread g c command asked none =
+    c.plain.ensures.unread command (plain_asked _ c.in-None.ensures.none command asked) none
 
 pub returns-in-None-clause-ends : goal.returns-in-None-clause-ends
 returns-in-None-clause-ends g c other =
@@ -11,8 +26,5 @@ returns-in-None-clause-complete g c good =
     (record {
       command = good.command;
       asked = plain_asked _ c.in-None.ensures.none good.command good.asked;
-      text = good.text;
-      held = good.held;
-      short = good.short;
-      good = good.good;
+      served = good.served;
     })
