@@ -1,5 +1,5 @@
 -- What `bench` counts.
-use Rattle.std.proofs.Common.{◌≡◌, ◌≤◌, ◌+◌, ◌<◌, ℕ, Bool, cond, List, [], ◌∷◌, ◌++◌, length, refl, sym, ap, subst, ◌∙◌, arith}
+use Rattle.std.proofs.Common.{◌≡◌, ◌≢◌, ◌≤◌, ◌+◌, ◌<◌, ℕ, suc, Bool, true, false, cond, Some, List, [], ◌∷◌, ◌++◌, length, refl, sym, ap, subst, ◌∙◌, arith}
 use Rattle.std.specs.Prelude.{count_by}
 use Rattle.std.proofs.lemmas.List.Sums.{sum_by_push, count_by-le-length}
 use Rattle.srs_num.specs.Points.{Point}
@@ -8,11 +8,14 @@ use Rattle.srs_plane.specs.Polygons.{region_of}
 use Rattle.srs_plane.specs.Regions.{Area, HasPoint}
 use Rattle.srs_path.specs.Views.{IsBudget}
 use Rattle.srs_tree.specs.declared.answers.Reply.{Reply}
-use Rattle.srs_tree.specs.Tree.{History, Tree, outcome_at}
+use Rattle.srs_path.specs.declared.paths.Side.{Side}
+use Rattle.srs_path.specs.declared.outcomes.Outcome.{Outcome}
+use Rattle.srs_path.specs.declared.outcomes.Outcome.TheVariants.{Left}
+use Rattle.srs_path.specs.declared.outcomes.Cause.TheVariants.{Memory}
+use Rattle.srs_tree.specs.Tree.{History, Tree, path_eq, outcome_at}
 use Rattle.srs_tree.specs.Legality.{IsLegal}
 use Rattle.srs_tree.specs.Answers.{Answers, kind_of}
 use Rattle.srs_tree.specs.Snapshots.{Snapshot, tree_of, StandsFor}
-use Rattle.srs_tree.proofs.TreeLemmas.{event_of}
 use Rattle.srs_tree.proofs.PlannedSteps.{outcome_of_event}
 use Rattle.srs_tree.specs.Preorder.{preorder_of}
 use Rattle.srs_check.specs.declared.faults.Counts.{Counts}
@@ -78,11 +81,21 @@ module _ (Root : Area) (T : Tree) where
       pushed : (kind : Reply → Bool) (x y : ℕ) → x ≡ count_by kind c.replies → y ≡ x + cond (kind reply) 1 0 → y ≡ count_by kind (c.replies ++ reply ∷ [])
       pushed kind x y is more = more ∙ ap (λ (n : ℕ). n + cond (kind reply) 1 0) is ∙ sym (sum_by_push (λ (a : Reply). cond (kind a) 1 0) c.replies reply)
 
+one_outcome : (x y : Outcome) → Some x ≡ Some y → x ≡ y
+one_outcome x y e = cc
+
+-- no outcome that is found was left for want of memory, where none of the events was
+not_found : (E : History) (p : List Side) (o : Outcome) → HasNoMemory E → outcome_at E p ≡ Some o → o ≢ Left Memory
+not_found [] p o none at = absurd (cc)
+not_found (x ∷ E) p o none at = elim (path_eq x.path p) as (λ b. cond b (Some x.outcome) (outcome_at E p) ≡ Some o → o ≢ Left Memory) [
+  | true ↦ λ here is. none x (0, omega arith, refl) (one_outcome x.outcome o here ∙ is)
+  | false ↦ λ there. not_found E p o (λ e c. none e (let l = c.1 in (suc c.0, omega (arith, l), c.2))) there
+] at
+
 -- no cell of the history was left for want of memory, where none of its events in preorder is
 planned_by : (R : Area) (W : ℕ) (H : History) (v : Snapshot) → IsLegal R W H → StandsFor R H v → HasNoMemory (preorder_of v) → HasNoMemory H
 planned_by R W H v legal stands none e c =
-    let there = event_of (preorder_of v) e.path e.outcome (preorder_same R H v stands e.path ∙ outcome_of_event R W H legal e c) in
-    none there.0 there.1
+    not_found (preorder_of v) e.path e.outcome none (preorder_same R H v stands e.path ∙ outcome_of_event R W H legal e c)
 
 pub counted_plan_of : (R : Area) (v : Snapshot) (nodes : Counts) → IsBudget bench_limits → HasPoint R → IsRefined R bench_limits v
     → HasNoMemory (preorder_of v) → nodes ≡ counts_of (preorder_of v) → IsCountedPlan R v nodes

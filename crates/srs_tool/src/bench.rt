@@ -122,7 +122,7 @@ fn is_planned(events: &Journal) -> bool
     ensures { IsTrue result → HasNoMemory events.now }
 {
     for i in 0..events.len() {
-        if let Outcome::Left(Cause::Memory) = &*events.get(i).outcome {
+        if matches!(events.get(i).outcome.as_ref(), Outcome::Left(Cause::Memory)) {
             return false;
         }
     }
