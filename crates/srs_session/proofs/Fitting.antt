@@ -7,14 +7,10 @@ use Rattle.std.proofs.Math.Nat.{le_refl}
 use Rattle.std.proofs.Math.Seq.{take-append-add}
 use Rattle.std.proofs.lemmas.List.{take-append-le, take_all}
 use Rattle.std.proofs.lemmas.List.Elements.{Contains-append_left, Contains-append_cases, All-from_recursion}
-use Rattle.srs_map.specs.Orbits.{IsOrbitEnd}
-use Rattle.srs_map.specs.declared.orbits.OrbitEnd.{OrbitEnd}
 use Rattle.srs_plane.specs.Regions.{Area}
 use Rattle.srs_turn.specs.Prefixes.{Begins}
 use Rattle.srs_tree.specs.Tree.{History, Tree, outcome_at}
 use Rattle.srs_tree.specs.Answers.{Answers, IsMet}
-use Rattle.srs_tree.specs.declared.answers.Reply.{Reply}
-use Rattle.srs_tree.specs.declared.answers.Met.{Met}
 use Rattle.srs_tree.specs.declared.queries.Query.{Query}
 use Rattle.srs_tree.specs.declared.queries.Query.TheVariants.{Fresh, Count, Point, Polygon, Orbit}
 use Rattle.srs_tree.specs.declared.queries.Said.{Said}
@@ -46,16 +42,16 @@ may_later G H h n b may = record {
 }
 
 module _ (Root : Area) (G H : History) (b : Begins G H) where
-  same_tree : (h : Heard) → IsHeardIn G h → tree_heard G h ≡ tree_heard H h
-  same_tree h in_g = ap outcome_at (sym (take_begins h.version G H b in_g.version))
+  heard_tree : (h : Heard) → IsHeardIn G h → tree_heard G h ≡ tree_heard H h
+  heard_tree h in_g = ap outcome_at (sym (take_begins h.version G H b in_g.version))
 
   tells_one_later : (h after : Heard) (query : Query) (said : Said) → IsHeardIn G h → Tells Root G h query said after → Tells Root H h query said after
   tells_one_later h after Fresh said in_g t = (t.0, may_later G H h t.0 b t.1, t.2, t.3)
   tells_one_later h after Count said in_g t = (t.0, may_later G H h t.0 b t.1, t.2, t.3)
   tells_one_later h after (Point r) said in_g t =
-      (t.0, subst (λ (T : Tree). Answers Root T r t.0) (same_tree h in_g) t.1, t.2, t.3)
+      (t.0, subst (λ (T : Tree). Answers Root T r t.0) (heard_tree h in_g) t.1, t.2, t.3)
   tells_one_later h after (Polygon q) said in_g t =
-      (t.0, subst (λ (T : Tree). IsMet Root T q t.0) (same_tree h in_g) t.1, t.2, t.3)
+      (t.0, subst (λ (T : Tree). IsMet Root T q t.0) (heard_tree h in_g) t.1, t.2, t.3)
   tells_one_later h after (Orbit r z n) said in_g t = t
 
 -- a question leaves what was heard within the history

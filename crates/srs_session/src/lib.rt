@@ -3,6 +3,8 @@
 
 mod gate;
 mod playing;
+mod sharing;
 
 pub use gate::{FreeGate, Gate};
 pub use playing::play;
+pub use sharing::shared;

@@ -39,9 +39,7 @@ pub fn play<R: Wait, G: Gate>(
 {
     let mut told = Transcript::new(alloc);
     let mut held = begin(rt, alloc, atlas, pass, seg, &mut told)?;
-    answer_all(
-        rt, alloc, atlas, pass, who, seg, gate, &mut held, &mut told,
-    )?;
+    answer_all(rt, alloc, atlas, pass, who, seg, gate, &mut held, &mut told)?;
     Ok(told)
 }
 
@@ -85,7 +83,7 @@ fn answer_all<R: Wait, G: Gate>(
     ensures told { OnOk result ((before : History) →
         IsPlayedTo atlas.now.fixed.root before pass.old.seen seg.now 0 told.old held.old →
         IsPlayedTo atlas.now.fixed.root before pass.new.seen seg.now (length seg.now.queries)
-            told.new held.new) }
+        told.new held.new) }
 {
     for i in 0..seg.queries.len() {
         gate.turn(rt, who, i);
@@ -114,8 +112,10 @@ fn answer<R: Wait>(
 {
     match query {
         Query::Fresh => {
-            *held = atlas.refresh(rt, alloc, pass)?;
-            Ok(Said::Version(held.count()))
+            let fresh = atlas.refresh(rt, alloc, pass)?;
+            let number = fresh.count();
+            *held = fresh;
+            Ok(Said::Version(number))
         }
         Query::Count => Ok(Said::Count(atlas.newest(pass))),
         Query::Point(r) => Ok(Said::Point(*r, reply_at::<Brand>(alloc, held, r, Blank::new(1))?)),
