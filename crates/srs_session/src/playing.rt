@@ -112,8 +112,10 @@ fn answer<R: Wait>(
 {
     match query {
         Query::Fresh => {
-            *held = atlas.refresh(rt, alloc, pass)?;
-            Ok(Said::Version(held.count()))
+            let fresh = atlas.refresh(rt, alloc, pass)?;
+            let number = fresh.count();
+            *held = fresh;
+            Ok(Said::Version(number))
         }
         Query::Count => Ok(Said::Count(atlas.newest(pass))),
         Query::Point(r) => Ok(Said::Point(*r, reply_at::<Brand>(alloc, held, r, Blank::new(1))?)),

@@ -2,10 +2,10 @@
 use Rattle.srs_session.proofs.Listened.{fresh_said, count_said, point_said, polygon_said}
 use Rattle.srs_session.proofs.playing.answer.Goals as goal
 
-pub returns-in_ok-held-in-Fresh-clause-said : goal.returns-in_ok-held-in-Fresh-clause-said
-returns-in_ok-held-in-Fresh-clause-said g c heard held =
+pub returns-in_ok-fresh-in-Fresh-clause-said : goal.returns-in_ok-fresh-in-Fresh-clause-said
+returns-in_ok-fresh-in-Fresh-clause-said g c heard held =
     fresh_said c.args.atlas.now.fixed.root c.args.pass.now.seen c.refresh.new.pass.seen c.refresh.ensures.seen heard c.args.held.now held
-    c.in_ok-held-in-Fresh.field-0 c.count.result c.args.query.now c.in-Fresh.is c.in_ok-held-in-Fresh.ensures.version c.count.ensures.count
+    c.in_ok-fresh-in-Fresh.fresh c.count-number.result c.args.query.now c.in-Fresh.is c.in_ok-fresh-in-Fresh.ensures.version c.count-number.ensures.count
 
 pub returns-in-Count-clause-said : goal.returns-in-Count-clause-said
 returns-in-Count-clause-said g c heard held =
