@@ -37,15 +37,18 @@ pub take_begins : {E : Type 0} (n : ℕ) (xs ys : List E) → Begins xs ys → n
     → take n ys ≡ take n xs
 take_begins n xs ys b l = ap (take n) b.1 ∙ take-append-le n xs b.0 l
 
-taken_in : (H : History) (n : ℕ) → n ≤ length H → IsHeardIn H (taken n)
-taken_in H n l = record { version = l; most = l }
+-- a version of the history that was taken is heard in it
+taken_heard : (H : History) (n : ℕ) → n ≤ length H → IsHeardIn H (taken n)
+taken_heard H n l = record { version = l; most = l }
 
+-- what may be said stays so
 may_later : (G H : History) (h : Heard) (n : ℕ) → Begins G H → MayBeSaid G h n → MayBeSaid H h n
 may_later G H h n b may = record {
   never_older = may.never_older;
   there = let l = begins_length G H b in let m = may.there in omega (arith, l, m);
 }
 
+-- the answers to one question stay true where the history goes on
 module _ (Root : Area) (G H : History) (b : Begins G H) where
   heard_tree : (h : Heard) → IsHeardIn G h → tree_heard G h ≡ tree_heard H h
   heard_tree h in_g = ap outcome_at (sym (take_begins h.version G H b in_g.version))
@@ -64,7 +67,7 @@ module _ (Root : Area) (G H : History) (b : Begins G H) where
 module _ (Root : Area) (H : History) where
   pub heard_in : (h after : Heard) (query : Query) (said : Said) → IsHeardIn H h
       → Tells Root H h query said after → IsHeardIn H after
-  heard_in h after Fresh said in_h t = subst (IsHeardIn H) (sym t.3) (taken_in H t.0 t.1.there)
+  heard_in h after Fresh said in_h t = subst (IsHeardIn H) (sym t.3) (taken_heard H t.0 t.1.there)
   heard_in h after Count said in_h t =
       subst (IsHeardIn H) (sym t.3) (record { version = in_h.version; most = t.1.there })
   heard_in h after (Point r) said in_h t = subst (IsHeardIn H) (sym t.3) in_h
@@ -79,6 +82,7 @@ module _ (Root : Area) (H : History) where
   all_heard_in h after (query ∷ queries) (said ∷ told) in_h t =
       all_heard_in t.0 after queries told (heard_in h t.0 query said in_h t.1) t.2
 
+-- so do those to all of them
 pub tells_all_later : (Root : Area) (G H : History) → Begins G H → (h after : Heard)
     (queries : List Query) (told : List Said) → IsHeardIn G h → TellsAll Root G h queries told after
     → TellsAll Root H h queries told after
@@ -101,7 +105,7 @@ tells_later Root G H h after s told b t = record {
   is = t.is;
   tells =
       tells_all_later Root G H b (taken t.number) after s.queries t.answers
-      (taken_in G t.number t.may.there) t.tells;
+      (taken_heard G t.number t.may.there) t.tells;
 }
 
 -- no number that was heard is greater than the history
@@ -110,7 +114,7 @@ pub heard_within : (Root : Area) (H : History) (h after : Heard) (s : Segment) (
 heard_within Root H h after s told t =
     let heard =
     all_heard_in Root H (taken t.number) after s.queries t.answers
-    (taken_in H t.number t.may.there) t.tells in
+    (taken_heard H t.number t.may.there) t.tells in
     heard.most
 
 -- less may have been heard before
@@ -118,7 +122,9 @@ pub heard_earlier : (Root : Area) (H : History) (h k after : Heard) (s : Segment
     → h.most ≤ k.most → TellsSegment Root H k s told after → TellsSegment Root H h s told after
 heard_earlier Root H h k after s told l t = record {
   number = t.number;
-  may = let m = t.may.never_older in record { never_older = omega (arith, l, m); there = t.may.there };
+  may =
+      let m = t.may.never_older in
+      record { never_older = omega (arith, l, m); there = t.may.there };
   answers = t.answers;
   is = t.is;
   tells = t.tells;
@@ -140,14 +146,16 @@ module _ (Root : Area) (W : ℕ) (G H : History) (k : ℕ) (rows : AreRowsDone G
 
   -- an event on a shorter path is an old one
   old_one : (e : Entry) → Contains H e → length e.path < k → Contains G e
-  old_one e c l = elim (Contains-append_cases G b.0 e (subst (λ (K : History). Contains K e) b.1 c)) [
-    | inl i ↦ i
-    | inr i ↦
-        let long : k ≤ length (get_or b.0 i.0 e).path = later i.0 e i.1 in
-        let same : length (get_or b.0 i.0 e).path ≡ length e.path =
-        ap (λ (f : Entry). length f.path) i.2 in
-        absurd (omega (arith, l, long, same))
-  ]
+  old_one e c l =
+      let there : Contains (G ++ b.0) e = subst (λ (K : History). Contains K e) b.1 c in
+      elim (Contains-append_cases G b.0 e there) [
+        | inl i ↦ i
+        | inr i ↦
+            let long : k ≤ length (get_or b.0 i.0 e).path = later i.0 e i.1 in
+            let same : length (get_or b.0 i.0 e).path ≡ length e.path =
+            ap (λ (f : Entry). length f.path) i.2 in
+            absurd (omega (arith, l, long, same))
+      ]
 
 -- the first events of a beginning are among the first of the whole
 take_stays : (G K : History) (n : ℕ) (e : Entry) → Contains (take n G) e
@@ -160,7 +168,8 @@ take_stays G K n e c = elim (dec_le n (length G)) [
       let is : take n (G ++ K) ≡ G ++ take (n - length G) K =
       ap (λ (j : ℕ). take j (G ++ K)) (sym past) ∙ take-append-add G K (n - length G) in
       subst (λ (F : History). Contains F e) (sym is)
-      (Contains-append_left G (take (n - length G) K) e (subst (λ (F : History). Contains F e) all c))
+      (Contains-append_left G (take (n - length G) K) e
+      (subst (λ (F : History). Contains F e) all c))
 ]
 
 -- where the rows are done, each later version holds what the history has in them
@@ -189,9 +198,12 @@ module _ (Root : Area) (H : History) where
       → h.most ≤ after.most
   most_grows h after Fresh said t = subst (λ (x : Heard). h.most ≤ x.most) (sym t.3) t.1.never_older
   most_grows h after Count said t = subst (λ (x : Heard). h.most ≤ x.most) (sym t.3) t.1.never_older
-  most_grows h after (Point r) said t = subst (λ (x : Heard). h.most ≤ x.most) (sym t.3) (le_refl h.most)
-  most_grows h after (Polygon q) said t = subst (λ (x : Heard). h.most ≤ x.most) (sym t.3) (le_refl h.most)
-  most_grows h after (Orbit r z n) said t = subst (λ (x : Heard). h.most ≤ x.most) (sym t.3) (le_refl h.most)
+  most_grows h after (Point r) said t =
+      subst (λ (x : Heard). h.most ≤ x.most) (sym t.3) (le_refl h.most)
+  most_grows h after (Polygon q) said t =
+      subst (λ (x : Heard). h.most ≤ x.most) (sym t.3) (le_refl h.most)
+  most_grows h after (Orbit r z n) said t =
+      subst (λ (x : Heard). h.most ≤ x.most) (sym t.3) (le_refl h.most)
 
   -- a version that is said is no older than what was heard
   version_above : (h after : Heard) (query : Query) (n : ℕ)
@@ -211,13 +223,17 @@ module _ (Root : Area) (H : History) where
   versions_above h after [] [] n t c = absurd (let l = c.1 in omega (arith, l))
   versions_above h after [] (said ∷ told) n t c = absurd t
   versions_above h after (query ∷ queries) [] n t c = absurd t
-  versions_above h after (query ∷ queries) (said ∷ told) n t c = elim (told_cases said (says.Version n) told c) [
-    | inl e ↦ version_above h t.0 query n (subst (λ (x : Said). Tells Root H h query x t.0) e t.1)
-    | inr d ↦
-        let first : h.most ≤ t.0.most = most_grows h t.0 query said t.1 in
-        let rest : t.0.most ≤ n = versions_above t.0 after queries told n t.2 d in
-        omega (arith, first, rest)
-  ]
+  versions_above h after (query ∷ queries) (said ∷ told) n t c =
+      elim (told_cases said (says.Version n) told c) [
+        | inl e ↦
+            let is : Tells Root H h query (says.Version n) t.0 =
+            subst (λ (x : Said). Tells Root H h query x t.0) e t.1 in
+            version_above h t.0 query n is
+        | inr d ↦
+            let first : h.most ≤ t.0.most = most_grows h t.0 query said t.1 in
+            let rest : t.0.most ≤ n = versions_above t.0 after queries told n t.2 d in
+            omega (arith, first, rest)
+      ]
 
   -- a segment tells no version that is older than what was heard
   pub segment_above : (h after : Heard) (s : Segment) (told : List Said) (n : ℕ)

@@ -72,7 +72,8 @@ module _ (Root : Area) (G H : History) (b : Begins G H) (heard : Heard) (v : Sna
       let tells : Tells Root H heard Fresh (says.Version n) (taken n) = (n, may, refl, refl) in
       record {
         next = taken n;
-        tells = subst (λ (q : Query). Tells Root H heard q (says.Version n) (taken n)) (sym asked) tells;
+        tells = subst (λ (q : Query). Tells Root H heard q (says.Version n) (taken n))
+            (sym asked) tells;
         held = new.1;
       }
 
@@ -111,7 +112,8 @@ module _ (Root : Area) (H : History) (heard : Heard) (v : Snapshot)
       (reply, same (λ R T. Answers R T r reply) answers, refl, refl) in
       record {
         next = heard;
-        tells = subst (λ (q : Query). Tells Root H heard q (says.Point r reply) heard) (sym asked) tells;
+        tells = subst (λ (q : Query). Tells Root H heard q (says.Point r reply) heard)
+            (sym asked) tells;
         held = held;
       }
 
@@ -122,7 +124,8 @@ module _ (Root : Area) (H : History) (heard : Heard) (v : Snapshot)
       (met, same (λ R T. IsMet R T q met) is, refl, refl) in
       record {
         next = heard;
-        tells = subst (λ (x : Query). Tells Root H heard x (says.Polygon met) heard) (sym asked) tells;
+        tells = subst (λ (x : Query). Tells Root H heard x (says.Polygon met) heard)
+            (sym asked) tells;
         held = held;
       }
 
@@ -133,7 +136,8 @@ module _ (Root : Area) (H : History) (heard : Heard) (v : Snapshot)
       let tells : Tells Root H heard (Orbit r z n) (says.Orbit end) heard = (end, is, refl, refl) in
       record {
         next = heard;
-        tells = subst (λ (x : Query). Tells Root H heard x (says.Orbit end) heard) (sym asked) tells;
+        tells = subst (λ (x : Query). Tells Root H heard x (says.Orbit end) heard)
+            (sym asked) tells;
         held = held;
       }
 
@@ -164,7 +168,8 @@ segment_next Root H h between after s i query told said there t u =
       tells =
           subst (λ (qs : List Query). TellsAll Root H (taken t.number) qs
           (t.answers ++ said ∷ []) after) (sym more)
-          (told_next Root H (taken t.number) between after (take i s.queries) query t.answers said t.tells u);
+          (told_next Root H (taken t.number) between after (take i s.queries) query t.answers said
+          t.tells u);
     }
 
 -- the segment's next question was answered while the history grew
