@@ -8,10 +8,12 @@ use Rattle.srs_tree.specs.contracts.queries.Said as said
 use Rattle.srs_tree.specs.contracts.sessions.Segment as segment
 use Rattle.srs_tree.proofs.Crossing.{cell_send, cell_sync}
 
-pub items_send : (T K : RattleType) (kept : Ghosts K.Denot T.Denot) → IsSend T → IsSend K → IsSend (items.the_row T K kept)
+pub items_send : (T K : RattleType) (kept : Ghosts K.Denot T.Denot) → IsSend T → IsSend K
+    → IsSend (items.the_row T K kept)
 items_send T K kept send kind = search (sendable, crosses) depth 20
 
-pub items_sync : (T K : RattleType) (kept : Ghosts K.Denot T.Denot) → IsSync T → IsSync K → IsSync (items.the_row T K kept)
+pub items_sync : (T K : RattleType) (kept : Ghosts K.Denot T.Denot) → IsSync T → IsSync K
+    → IsSync (items.the_row T K kept)
 items_sync T K kept sync kind = search (sendable, crosses) depth 20
 
 pub segment_send : IsSend segment.the_row

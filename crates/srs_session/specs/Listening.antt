@@ -14,7 +14,7 @@ pub record IsHeardIn (H : History) (heard : Heard) : Type 0 where
   pub most : heard.most ≤ length H
 
 -- v is the version that was taken last
-pub record IsHeld (Root : Area) (H : History) (heard : Heard) (v : Snapshot) : Type 0 where
+pub record IsVersionHeard (Root : Area) (H : History) (heard : Heard) (v : Snapshot) : Type 0 where
   pub within : IsHeardIn H heard
   pub stands : StandsFor Root (take heard.version H) v
 
@@ -23,15 +23,15 @@ pub record IsAnswered (Root : Area) (H : History) (heard : Heard) (query : Query
     (v : Snapshot) : Type 0 where
   pub next : Heard
   pub tells : Tells Root H heard query said next
-  pub held : IsHeld Root H next v
+  pub held : IsVersionHeard Root H next v
 
 -- the segment with its first i questions alone
-abbrev pub first_of : Segment → ℕ → Segment
-first_of s i = record { at = s.at; queries = take i s.queries }
+abbrev pub first_queries : Segment → ℕ → Segment
+first_queries s i = record { at = s.at; queries = take i s.queries }
 
 -- the first i questions were answered while the history grew from `before` to `now`
 pub record IsPlayedTo (Root : Area) (before now : History) (s : Segment) (i : ℕ)
     (told : List Said) (v : Snapshot) : Type 0 where
   pub heard : Heard
-  pub tells : TellsSegment Root now (taken (length before)) (first_of s i) told heard
-  pub held : IsHeld Root now heard v
+  pub tells : TellsSegment Root now (taken (length before)) (first_queries s i) told heard
+  pub held : IsVersionHeard Root now heard v

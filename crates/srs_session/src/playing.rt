@@ -8,7 +8,7 @@ ghost use Rattle.srs_tree.specs.Answers.{Answers};
 ghost use Rattle.srs_tree.specs.Fits.{Heard};
 ghost use Rattle.srs_tree.specs.Questions.{IsAskable};
 ghost use Rattle.srs_session.specs.Playing.{IsPlayed};
-ghost use Rattle.srs_session.specs.Listening.{IsHeld, IsAnswered, IsPlayedTo};
+ghost use Rattle.srs_session.specs.Listening.{IsVersionHeard, IsAnswered, IsPlayedTo};
 
 use crate::Gate;
 use srs_atlas::{Atlas, AtlasPass};
@@ -107,7 +107,7 @@ fn answer<R: Wait>(
     ensures own { IsPassOf atlas.now pass.new }
     ensures seen { Begins pass.old.seen pass.new.seen }
     ensures said { IfOk result (λ said. (heard : Heard) →
-        IsHeld atlas.now.fixed.root pass.old.seen heard held.old →
+        IsVersionHeard atlas.now.fixed.root pass.old.seen heard held.old →
         IsAnswered atlas.now.fixed.root pass.new.seen heard query.now said held.new) }
 {
     match query {

@@ -7,5 +7,7 @@ use Rattle.srs_session.proofs.playing.answer_all.Given as goal
 abbrev pub invariant-loop-i : goal.invariant-loop-i
 invariant-loop-i g l =
     IsPassOf l.atlas l.pass × Begins l.fn.pass.seen l.pass.seen
-    × ((before : History) → IsPlayedTo l.atlas.fixed.root before l.fn.pass.seen l.seg 0 l.fn.told l.fn.held
+    ×
+    ((before : History) → IsPlayedTo l.atlas.fixed.root before l.fn.pass.seen l.seg 0 l.fn.told
+    l.fn.held
     → IsPlayedTo l.atlas.fixed.root before l.pass.seen l.seg l.i l.told l.held)
