@@ -1,8 +1,8 @@
 // How a seat gets the book of its turn, and how it gives the book back.
-ghost use Rattle.std.specs.Prelude.{◌∷◌, ◌≡◌, [], length, Some};
+ghost use Rattle.std.specs.Prelude.{◌∷◌, ◌≡◌, [], length, Some, IfSome, IfNone};
 ghost use Rattle.srs_turn.specs.Prefixes.{Begins, AddsAtMostOne};
 ghost use Rattle.srs_turn.specs.TurnWords.{told_in};
-ghost use Rattle.srs_turn.specs.Holding.{WaitsFor, HoldsWithBookOut, Holds, seen_by};
+ghost use Rattle.srs_turn.specs.Holding.{WaitsFor, StillWaits, HoldsWithBookOut, Holds, seen_by};
 
 use crate::told::Told;
 use crate::turn::Turn;
@@ -10,29 +10,65 @@ use crate::view::{Freeing, Growing, View, Winning};
 use atomic_table::Seat;
 use std::sync::Wait;
 
+// So often does a seat try for a turn that is held before it sleeps.
+const TRIES: u32 = 200;
+
 // A seat of a turn round a `B`. While it holds the turn it is no pass, so these steps are on seats.
 type SeatOf<B> = Seat<Option<B>, View<<B as Told>::Entry, <B as Told>::Fixed>>;
 
 impl<B: Told> Turn<B> {
-    // Waits for the turn, and takes the book out of the slot.
+    // Waits for the turn, and takes the book out of the slot. The seat tries some times before it
+    // sleeps, since a turn is mostly held for less than it takes to fall asleep and be woken.
     pub(crate) fn take<R: Wait>(&self, rt: &R, seat: &mut SeatOf<B>) -> B
         requires { WaitsFor self.now seat.old }
         ensures held { HoldsWithBookOut self.now seat.new }
         ensures book { (B.told result ≡ seen_by seat.new) × (B.fixed result ≡ self.now.fixed) }
         ensures seen { Begins (seen_by seat.old) (seen_by seat.new) }
     {
-        let shared = &self.table.shared;
         for _ in rt.forever() {
-            let found = shared.compare_exchange::<Winning<B>>(seat, 0, 0, 1);
-            if found == 0 {
-                let Some(book) = shared.exchange(seat, 0, None) else {
-                    unreachable!()
-                };
+            if let Some(book) = self.try_often(seat) {
                 return book;
             }
-            shared.park(rt, 0, 1);
+            self.table.shared.park(rt, 0, 1);
         }
         unreachable!()
+    }
+
+    // As `try_take`, up to `TRIES` times.
+    fn try_often(&self, seat: &mut SeatOf<B>) -> Option<B>
+        requires { WaitsFor self.now seat.old }
+        ensures held { IfSome result (λ book. HoldsWithBookOut self.now seat.new) }
+        ensures book { IfSome result (λ book.
+            (B.told book ≡ seen_by seat.new) × (B.fixed book ≡ self.now.fixed)) }
+        ensures seen { Begins (seen_by seat.old) (seen_by seat.new) }
+        ensures none { IfNone result (StillWaits seat.old seat.new) }
+    {
+        for _ in 0..TRIES {
+            if let Some(book) = self.try_take(seat) {
+                return Some(book);
+            }
+        }
+        None
+    }
+
+    // Takes the book out of the slot where nobody holds the turn.
+    fn try_take(&self, seat: &mut SeatOf<B>) -> Option<B>
+        requires { WaitsFor self.now seat.old }
+        ensures held { IfSome result (λ book. HoldsWithBookOut self.now seat.new) }
+        ensures book { IfSome result (λ book.
+            (B.told book ≡ seen_by seat.new) × (B.fixed book ≡ self.now.fixed)) }
+        ensures seen { Begins (seen_by seat.old) (seen_by seat.new) }
+        ensures none { IfNone result (StillWaits seat.old seat.new) }
+    {
+        let shared = &self.table.shared;
+        let found = shared.compare_exchange::<Winning<B>>(seat, 0, 0, 1);
+        if found != 0 {
+            return None;
+        }
+        let Some(book) = shared.exchange(seat, 0, None) else {
+            unreachable!()
+        };
+        Some(book)
     }
 
     // Puts the book back, whose list had `was` entries, and gives up the turn. The book is in its slot before its
