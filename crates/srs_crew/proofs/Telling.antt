@@ -170,6 +170,18 @@ tells_more Root J h between after (u ∷ us) s told more t seg rows = (
   tells_more Root J t.2 between after us s t.1 more t.6 seg rows,
 )
 
+pub told_to_snoc : (i : ℕ) (rounds : List (List (List Said))) (round : List (List Said)) → told_to i (rounds ++ round ∷ []) ≡ told_to i rounds ++ get_or round i []
+told_to_snoc i [] round = append-nil (get_or round i [])
+told_to_snoc i (first ∷ rounds) round =
+    ap (λ (l : List Said). get_or first i [] ++ l) (told_to_snoc i rounds round) ∙ sym (append_assoc (get_or first i []) (told_to i rounds) (get_or round i []))
+
+-- what the session was told in one round more
+pub over_next : (place k : ℕ) (rounds : List (List (List Said))) (round : List (List Said)) (t one new : List Said) → one ≡ told_to place (take k rounds) → slice_get rounds k ≡ Some round
+    → slice_get round place ≡ Some t → new ≡ one ++ t → new ≡ told_to place (take (k + 1) rounds)
+over_next place k rounds round t one new h g at e =
+    e ∙ ap (λ (l : List Said). l ++ t) h ∙ ap (λ (l : List Said). told_to place (take k rounds) ++ l) (sym (get_or_from_slice_get round place t [] at))
+    ∙ sym (told_to_snoc place (take k rounds) round) ∙ ap (told_to place) (sym (take_next rounds k round g))
+
 pub legal_first : (Root : Area) (W : ℕ) (G H : History) → Begins G H → IsLegal Root W H → IsLegal Root W G
 legal_first Root W G H b legal = IsLegal-first Root W G b.0 (subst (IsLegal Root W) b.1 legal)
 
@@ -299,18 +311,6 @@ module _ (Root : Area) where
     as_many = λ j round g. absurd (none-some round g);
     each = λ i session g. below_none session (up i session g);
   }
-
-  pub told_to_snoc : (i : ℕ) (rounds : List (List (List Said))) (round : List (List Said)) → told_to i (rounds ++ round ∷ []) ≡ told_to i rounds ++ get_or round i []
-  told_to_snoc i [] round = append-nil (get_or round i [])
-  told_to_snoc i (first ∷ rounds) round =
-      ap (λ (l : List Said). get_or first i [] ++ l) (told_to_snoc i rounds round) ∙ sym (append_assoc (get_or first i []) (told_to i rounds) (get_or round i []))
-
-  -- what the session was told in one round more
-  pub over_next : (place k : ℕ) (rounds : List (List (List Said))) (round : List (List Said)) (t one new : List Said) → one ≡ told_to place (take k rounds) → slice_get rounds k ≡ Some round
-      → slice_get round place ≡ Some t → new ≡ one ++ t → new ≡ told_to place (take (k + 1) rounds)
-  over_next place k rounds round t one new h g at e =
-      e ∙ ap (λ (l : List Said). l ++ t) h ∙ ap (λ (l : List Said). told_to place (take k rounds) ++ l) (sym (get_or_from_slice_get round place t [] at))
-      ∙ sym (told_to_snoc place (take k rounds) round) ∙ ap (told_to place) (sym (take_next rounds k round g))
 
   pub rounds_next : (G before after : History) (k : ℕ) (script : List (List Segment)) (rounds : List (List (List Said))) (round : List (List Said)) → AreToldBelow Root G k script rounds → Begins G before → Begins before after
       → AreRowsDone before k → AreToldIn Root before after k script round → AreToldBelow Root after (k + 1) script (rounds ++ round ∷ [])

@@ -1,7 +1,5 @@
 -- The cells that waited are those of the round, and what is left of it is done at the end.
-use Rattle.std.proofs.Common.{List}
 use Rattle.srs_turn.proofs.PrefixLemmas.{begins_trans}
-use Rattle.srs_tree.specs.declared.queries.Said.{Said}
 use Rattle.srs_crew.specs.Telling.{AreToldIn}
 use Rattle.srs_crew.proofs.Working.{round_later, works, done_from, ok_always, if_ok}
 use Rattle.srs_crew.proofs.Telling.{told_wider}
@@ -15,7 +13,7 @@ beside-told-requires-clause-work g c κs within =
     c.in_ok-cells.ensures.from
 
 pub rest-requires-clause-plan : goal.rest-requires-clause-plan
-rest-requires-clause-plan g c κs within =
+rest-requires-clause-plan g c =
     record { start = c.args.pass.now.seen; begins = begins_trans _ _ _ c.pending.ensures.seen c.beside-told.ensures.seen; by_plan = c.requires.plan }
 
 pub returns-clause-done : goal.returns-clause-done
