@@ -6,7 +6,6 @@ use contract.Lifetimes.{Lfts}
 use denote.Param.Send.{IsSend, IsSync, sendable, param_send}
 use Rattle.srs_turn.specs.Prefixes.{Begins}
 use Rattle.srs_turn.proofs.PrefixLemmas.{begins_refl}
-use Rattle.srs_tree.specs.Tree.{History}
 use Rattle.srs_session.specs.Playing.{IsPlayed}
 use Rattle.srs_session.proofs.Crossing.{sessions}
 use Rattle.srs_crew.specs.Telling.{IsToldIn, AreToldIn, IsOneMore}
