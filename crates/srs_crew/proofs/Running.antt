@@ -1,5 +1,5 @@
 -- Round after round.
-use Rattle.std.proofs.Common.{◌≡◌, ℕ, suc, ◌+◌, ◌<◌, ◌≤◌, ◌==◌, List, [], length, take, drop, sym, ap₂, subst, ◌∙◌, arith}
+use Rattle.std.proofs.Common.{◌≡◌, ℕ, suc, ◌+◌, ◌<◌, ◌≤◌, ◌==◌, List, length, take, drop, sym, ap₂, subst, ◌∙◌, arith}
 use Rattle.std.proofs.lemmas.List.{take-append-drop, length-take-le}
 use Rattle.std.proofs.lemmas.Bool.Decides.{Decides-eqb}
 use Rattle.std.specs.Prelude.{IsSome}
@@ -94,9 +94,9 @@ module _ (terms : Terms) (L : Budget) (plan : terms.plan ≡ Some L) where
       })
 
   -- where the rows down to the greatest depth are done, all cells are done
-  pub deepest : (S : History) → IsLawful terms S → AreRowsDone S (L.depth + 1) → AreAllDone S
-  deepest S lawful rows = record {
-    each = λ path cell. rows.each path cell (let l = depth_within terms.root L S (by_planned terms.root L S (lawful.planned L plan)) path cell in omega (arith, l));
+  pub deepest : (S : History) (k : ℕ) → L.depth < k → IsLawful terms S → AreRowsDone S k → AreAllDone S
+  deepest S k deep lawful rows = record {
+    each = λ path cell. rows.each path cell (let l = depth_within terms.root L S (by_planned terms.root L S (lawful.planned L plan)) path cell in omega (arith, l, deep));
   }
 
 -- where no cell is of round k and the rows above it are done, all cells have their events

@@ -1,8 +1,7 @@
 -- What the sessions of a script were told so far, and that it fits at the end.
-use Rattle.std.proofs.Common.{◌≡◌, ◌≢◌, ◌⊎◌, inl, inr, ℕ, zero, suc, ◌+◌, ◌-◌, ◌<◌, ◌≤◌, List, [], ◌∷◌, ◌++◌, length, length-append, take, get_or, slice_get, refl, sym, ap, subst, ◌∙◌, arith, append-nil, append_assoc}
+use Rattle.std.proofs.Common.{◌≡◌, ◌≢◌, inl, inr, ℕ, zero, suc, ◌+◌, ◌-◌, ◌<◌, ◌≤◌, List, [], ◌∷◌, ◌++◌, length, length-append, take, get_or, slice_get, refl, sym, ap, subst, ◌∙◌, arith, append-nil, append_assoc}
 use Rattle.std.specs.Prelude.{Contains, IfOk}
 use Rattle.std.specs.declared.result.Result.{Result}
-use Rattle.std.specs.declared.result.Result.TheVariants.{Ok}
 use Rattle.std.specs.declared.option.Option.TheVariants.{Some}
 use Rattle.std.proofs.Math.Decide.{dec_lt}
 use Rattle.std.proofs.Math.ListN.{get_or-append}
@@ -41,7 +40,7 @@ module _ {X : Type 0} where
       let next : i + 1 ≡ suc i = omega arith in
       ap (λ (n : ℕ). take n xs) next ∙ take-suc xs i x (slice_get_within xs i x g) ∙ ap (λ (y : X). take i xs ++ y ∷ []) (get_or_from_slice_get xs i x x g)
 
-  same_at : (xs : List X) (i : ℕ) (x y : X) → slice_get xs i ≡ Some x → slice_get xs i ≡ Some y → x ≡ y
+  pub same_at : (xs : List X) (i : ℕ) (x y : X) → slice_get xs i ≡ Some x → slice_get xs i ≡ Some y → x ≡ y
   same_at xs i x y g h = let e : Some x ≡ Some y = sym g ∙ h in cc
 
   -- what holds of the first elements, and of the next one
@@ -54,6 +53,11 @@ module _ {X : Type 0} where
         let same : x ≡ y = same_at xs i x y g (ap (slice_get xs) (sym e) ∙ h) in
         subst P same p
   ]
+
+  -- a list that takes the next element of another
+  pub append_next : (first told new more : List X) (i : ℕ) (x : X) → told ≡ first ++ take i more → slice_get more i ≡ Some x → new ≡ told ++ x ∷ [] → new ≡ first ++ take (i + 1) more
+  append_next first told new more i x h g e =
+      e ∙ ap (λ (l : List X). l ++ x ∷ []) h ∙ append_assoc first (take i more) (x ∷ []) ∙ ap (λ (l : List X). first ++ l) (sym (take_next more i x g))
 
 -- the rounds of a session's segments
 module _ (session : List Segment) where
@@ -165,10 +169,22 @@ tells_more Root J h between after (u ∷ us) s told more t seg rows = (
   tells_more Root J t.2 between after us s t.1 more t.6 seg rows,
 )
 
-legal_first : (Root : Area) (W : ℕ) (G H : History) → Begins G H → IsLegal Root W H → IsLegal Root W G
+pub told_to_snoc : (i : ℕ) (rounds : List (List (List Said))) (round : List (List Said)) → told_to i (rounds ++ round ∷ []) ≡ told_to i rounds ++ get_or round i []
+told_to_snoc i [] round = append-nil (get_or round i [])
+told_to_snoc i (first ∷ rounds) round =
+    ap (λ (l : List Said). get_or first i [] ++ l) (told_to_snoc i rounds round) ∙ sym (append_assoc (get_or first i []) (told_to i rounds) (get_or round i []))
+
+-- what the session was told in one round more
+pub over_next : (place k : ℕ) (rounds : List (List (List Said))) (round : List (List Said)) (t one new : List Said) → one ≡ told_to place (take k rounds) → slice_get rounds k ≡ Some round
+    → slice_get round place ≡ Some t → new ≡ one ++ t → new ≡ told_to place (take (k + 1) rounds)
+over_next place k rounds round t one new h g at e =
+    e ∙ ap (λ (l : List Said). l ++ t) h ∙ ap (λ (l : List Said). told_to place (take k rounds) ++ l) (sym (get_or_from_slice_get round place t [] at))
+    ∙ sym (told_to_snoc place (take k rounds) round) ∙ ap (told_to place) (sym (take_next rounds k round g))
+
+pub legal_first : (Root : Area) (W : ℕ) (G H : History) → Begins G H → IsLegal Root W H → IsLegal Root W G
 legal_first Root W G H b legal = IsLegal-first Root W G b.0 (subst (IsLegal Root W) b.1 legal)
 
-rows_stay : (Root : Area) (W k : ℕ) (G H : History) → Begins G H → IsLegal Root W H → AreRowsDone G k → AreRowsDone H k
+pub rows_stay : (Root : Area) (W k : ℕ) (G H : History) → Begins G H → IsLegal Root W H → AreRowsDone G k → AreRowsDone H k
 rows_stay Root W k G H b legal rows = record { each = rows_later Root W G H k b legal rows }
 
 module _ (Root : Area) where
@@ -295,11 +311,6 @@ module _ (Root : Area) where
     each = λ i session g. below_none session (up i session g);
   }
 
-  pub told_to_snoc : (i : ℕ) (rounds : List (List (List Said))) (round : List (List Said)) → told_to i (rounds ++ round ∷ []) ≡ told_to i rounds ++ get_or round i []
-  told_to_snoc i [] round = append-nil (get_or round i [])
-  told_to_snoc i (first ∷ rounds) round =
-      ap (λ (l : List Said). get_or first i [] ++ l) (told_to_snoc i rounds round) ∙ sym (append_assoc (get_or first i []) (told_to i rounds) (get_or round i []))
-
   pub rounds_next : (G before after : History) (k : ℕ) (script : List (List Segment)) (rounds : List (List (List Said))) (round : List (List Said)) → AreToldBelow Root G k script rounds → Begins G before → Begins before after
       → AreRowsDone before k → AreToldIn Root before after k script round → AreToldBelow Root after (k + 1) script (rounds ++ round ∷ [])
   rounds_next G before after k script rounds round f a b rows t = record {
@@ -374,3 +385,10 @@ module _ (Root : Area) where
     pub fits_all : (H : History) (script : List (List Segment)) (told : List (List Said)) → Begins H J → AreToldFirst Root H (length script) script told → Fits Root J script told
     fits_all H script told b f =
         fits_each script told f.as_many (λ i session one g h. fits_one H session one b (f.each i session one g h))
+
+-- all cells were done where they are
+pub was_done : (H : History) → AreAllDone H → WasAllDone H
+was_done H done = (H, begins_refl H, done)
+
+pub was_done_later : (G H : History) → Begins G H → WasAllDone G → WasAllDone H
+was_done_later G H b w = (w.0, begins_trans w.0 G H w.1 b, w.2)

@@ -1,6 +1,6 @@
 -- What the workers of a round know, and that it stays.
 use Rattle.std.proofs.Common.{◌≡◌, ◌⊎◌, inl, inr, ℕ, zero, suc, ◌+◌, ◌<◌, ◌≤◌, List, [], ◌∷◌, ◌++◌, length, length-append, map, slice_get, get_or, refl, sym, ap, subst, ◌∙◌, arith, append-nil}
-use Rattle.std.specs.Prelude.{Contains, IsSome, OnOk}
+use Rattle.std.specs.Prelude.{Contains, IsSome, OnOk, IfOk}
 use Rattle.std.specs.declared.result.Result.{Result}
 use Rattle.std.specs.declared.result.Result.TheVariants.{Ok, Err}
 use Rattle.std.proofs.Math.Decide.{dec_lt}
@@ -236,6 +236,14 @@ module _ {X E : Type 0} where
   pub on_ok : (P Q : Type 0) (r : Result X E) → (P → Q) → OnOk r P → OnOk r Q
   on_ok P Q (Ok x) f p = f p
   on_ok P Q (Err e) f p = tt
+
+  pub ok_always : (P : Type 0) (r : Result X E) → P → OnOk r P
+  ok_always P (Ok x) p = p
+  ok_always P (Err e) p = tt
+
+  pub if_ok : (P Q : X → Type 0) (r : Result X E) → ((x : X) → P x → Q x) → IfOk r P → IfOk r Q
+  if_ok P Q (Ok x) f p = f x p
+  if_ok P Q (Err e) f p = tt
 
   pub on_ok_both : (P Q S : Type 0) (r : Result X E) → (P → Q → S) → OnOk r P → OnOk r Q → OnOk r S
   on_ok_both P Q S (Ok x) f p q = f p q

@@ -9,7 +9,7 @@ ghost use Rattle.srs_crew.specs.Telling.{AreToldBelow};
 ghost use Rattle.srs_crew.specs.Runs.{IsRun};
 
 use crate::rounds::{Job, level};
-use crate::transcripts::{ByRounds, no_round, transcripts};
+use crate::transcripts::{ByRounds, add_round, no_round, transcripts};
 use srs_atlas::{Atlas, AtlasPass};
 use srs_cell::Cell;
 use srs_num::NoMemory;
@@ -75,9 +75,10 @@ fn all_rounds<R: Threads + Wait + Sync, G: Gate>(
         AreToldBelow atlas.now.fixed.root pass.new.seen rounds script.now told.new) }
 {
     for round in 0..limits.depth() + 1 {
-        if next_round(
+        let ended = next_round(
             rt, alloc, atlas, pass, limits, round, workers, script, told, gate,
-        )? {
+        )?;
+        if ended {
             return Ok(round);
         }
     }
@@ -125,8 +126,6 @@ fn next_round<R: Threads + Wait + Sync, G: Gate>(
         workers,
     };
     let more = level(rt, alloc, atlas, pass, &job, script, gate)?;
-    match told.push(more) {
-        Ok(()) => Ok(false),
-        Err(_) => Err(NoMemory),
-    }
+    add_round(told, more)?;
+    Ok(false)
 }

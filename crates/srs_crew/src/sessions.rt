@@ -1,5 +1,6 @@
 // Sessions, which are played beside the workers.
-ghost use Rattle.std.specs.Prelude.{◌≡◌, ◌≢◌, ◌<◌, ◌≤◌, ◌+◌, ◌-◌, take, length, Contains, IfOk, IfSome, IfNone};
+ghost use Rattle.std.specs.Prelude.{◌≡◌, ◌≢◌, ◌<◌, ◌≤◌, ◌+◌, ◌-◌, [], ◌∷◌, ◌++◌};
+ghost use Rattle.std.specs.Prelude.{take, length, Contains, IfOk, OnOk, IfSome, IfNone};
 ghost use Rattle.std.specs.Thread.{IsSync};
 ghost use Rattle.srs_turn.specs.Prefixes.{Begins};
 ghost use Rattle.srs_turn.specs.Passes.{IsPassOf};
@@ -70,6 +71,16 @@ fn listen<R: Wait, G: Gate>(
     (pass, told)
 }
 
+// One transcript more. An `Err` is want of memory.
+pub(crate) fn add_one(all: &mut Transcripts, one: Transcript) -> Result<(), NoMemory>
+    ensures { OnOk result (all.new ≡ all.old ++ one ∷ []) }
+{
+    match all.push(one) {
+        Ok(()) => Ok(()),
+        Err(_) => Err(NoMemory),
+    }
+}
+
 // The transcripts with one more behind them. An `Err` is want of memory, here or before.
 fn with_one(
     told: Result<Transcripts, NoMemory>,
@@ -78,10 +89,8 @@ fn with_one(
     ensures { IfOk result (λ all. IsOneMore told one all) }
 {
     let mut all = told?;
-    match all.push(one?) {
-        Ok(()) => Ok(all),
-        Err(_) => Err(NoMemory),
-    }
+    add_one(&mut all, one?)?;
+    Ok(all)
 }
 
 // The workers of the round, and beside them the first n sessions: each that has a segment at the
@@ -98,7 +107,7 @@ pub(crate) fn crew_and_sessions<R: Threads + Wait + Sync, G: Gate>(
 ) -> (AtlasPass, Result<Transcripts, NoMemory>)
     requires work { MayWork atlas.now shift.now pass seat }
     requires workers { (1 ≤ shift.now.workers) × (shift.now.workers ≤ seat.spare + 1) }
-    requires within { n ≤ length script.now }
+    requires within { (n ≤ length script.now) × (n ≤ 8) }
     ensures own { IsPassOf atlas.now result.0 }
     ensures seen { Begins pass.seen result.0.seen }
     ensures told { IfOk result.1
@@ -122,8 +131,9 @@ pub(crate) fn crew_and_sessions<R: Threads + Wait + Sync, G: Gate>(
         move ||
             requires work { MayWork atlas.now shift.now pass seat }
             requires workers { (1 ≤ shift.now.workers) ×
-                (shift.now.workers ≤ seat.spare + 1) × IsSync R.row }
-            requires within { n - 1 ≤ length script.now }
+                (shift.now.workers ≤ seat.spare + 1) }
+            requires within { (1 ≤ n) × (n ≤ length script.now) × (n ≤ 8) }
+            requires sync { IsSync R.row }
             ensures own { IsPassOf atlas.entry.now result.0 }
             ensures seen { Begins pass.seen result.0.seen }
             ensures told { IfOk result.1

@@ -1,5 +1,5 @@
 // What each session was told in all.
-ghost use Rattle.std.specs.Prelude.{◌≡◌, ◌<◌, [], ◌++◌, ℕ, List, length, slice_get, Some, IfOk, OnOk};
+ghost use Rattle.std.specs.Prelude.{◌≡◌, ◌<◌, [], ◌∷◌, ◌++◌, ℕ, List, length, slice_get, Some, IfOk, OnOk};
 ghost use Rattle.srs_plane.specs.Regions.{Area};
 ghost use Rattle.srs_turn.specs.Prefixes.{Begins};
 ghost use Rattle.srs_turn.specs.Passes.{IsPassOf};
@@ -8,7 +8,7 @@ ghost use Rattle.srs_crew.specs.Rounds.{WasAllDone};
 ghost use Rattle.srs_crew.specs.Telling.{IsToldBelow, IsToldAll};
 ghost use Rattle.srs_crew.specs.Telling.{AreToldBelow, AreToldFirst, told_to};
 
-use crate::sessions::{FIRST_SESSION, segments_before};
+use crate::sessions::{FIRST_SESSION, add_one, segments_before};
 use srs_atlas::{Atlas, AtlasPass};
 use srs_num::{Items, NoMemory};
 use srs_session::{Gate, play};
@@ -44,17 +44,34 @@ fn copy(alloc: Global, said: &Said) -> Result<Said, NoMemory>
     })
 }
 
-// More is told. An `Err` is want of memory.
+// A copy of what was said comes to the transcript. An `Err` is want of memory.
+fn append_one(alloc: Global, told: &mut Transcript, said: &Said) -> Result<(), NoMemory>
+    ensures { OnOk result (told.new ≡ told.old ++ said.now ∷ []) }
+{
+    match told.push(copy(alloc, said)?) {
+        Ok(()) => Ok(()),
+        Err(_) => Err(NoMemory),
+    }
+}
+
+// Copies of more that was said come to the transcript. An `Err` is want of memory.
 fn append(alloc: Global, told: &mut Transcript, more: &Transcript) -> Result<(), NoMemory>
     ensures { OnOk result (told.new ≡ told.old ++ more.now) }
 {
     for i in 0..more.len() {
-        let said = copy(alloc, more.get(i))?;
-        if told.push(said).is_err() {
-            return Err(NoMemory);
-        }
+        append_one(alloc, told, more.get(i))?;
     }
     Ok(())
+}
+
+// One round more. An `Err` is want of memory.
+pub(crate) fn add_round(told: &mut ByRounds, round: Transcripts) -> Result<(), NoMemory>
+    ensures { OnOk result (told.new ≡ told.old ++ round ∷ []) }
+{
+    match told.push(round) {
+        Ok(()) => Ok(()),
+        Err(_) => Err(NoMemory),
+    }
 }
 
 // What the session at this place was told in these rounds, one after another. An `Err` is want of
@@ -125,9 +142,7 @@ pub(crate) fn transcripts<R: Wait, G: Gate>(
         let session = script.get(i);
         let who = FIRST_SESSION + i as u32;
         let one = transcript(rt, alloc, atlas, pass, session, round, before, who, gate)?;
-        if all.push(one).is_err() {
-            return Err(NoMemory);
-        }
+        add_one(&mut all, one)?;
     }
     Ok(all)
 }
