@@ -106,18 +106,33 @@ read_is_ask text last (count, reaches, end) =
     let behind = asked (with_cert cut.cert) last cut.back cut.asked cut.ends (not_ended cut.cert no_questions) end in
     let certificate : IsRead CertSteps CertEnds cert_start (lines_text cut.front) cut.cert =
     (length cut.front, record { lines = cut.front; count_is = refl; whole = sym (append-nil (lines_text cut.front)); good = cut.read }, cut.ends) in
-    let so = lines_asked no_questions behind.questions behind.front [] behind.read (none_asked IsQuestion) in
+    let so = lines_asked no_questions behind.questions behind.front [] behind.read
+    (none_asked IsQuestion) in
     let (texts, are, same) = texts_of so.questions behind.questions.queries so.asked in
-    let questions : lines_text behind.front ≡ flat texts = all_asked IsQuestion behind.questions (lines_text behind.front) behind.closed so ∙ same in
-    let back : lines_text cut.back ≡ flat texts ++ ended (codes "end") = ap lines_text behind.lines_are ∙ joined_append behind.front (codes "end" ∷ []) ∙ rw questions refl in
+    let questions : lines_text behind.front ≡ flat texts =
+    all_asked IsQuestion behind.questions (lines_text behind.front) behind.closed so ∙ same in
+    let back : lines_text cut.back ≡ flat texts ++ ended (codes "end") =
+    ap lines_text behind.lines_are ∙ joined_append behind.front (codes "end" ∷ [])
+    ∙ rw questions refl in
     let all : text ≡ (lines_text cut.front ++ flat texts) ++ ended (codes "end") =
-    reaches.whole ∙ append-nil (lines_text reaches.lines) ∙ ap lines_text cut.lines_are ∙ joined_append cut.front cut.back ∙ ap (λ x. lines_text cut.front ++ x) back ∙ sym (append_assoc (lines_text cut.front) (flat texts) (ended (codes "end"))) in
-    rw behind.last_is (record { certificate = lines_text cut.front; of_certificate = read_is_cert (lines_text cut.front) cut.cert certificate; questions = texts; of_questions = are; whole = all })
+    reaches.whole ∙ append-nil (lines_text reaches.lines) ∙ ap lines_text cut.lines_are
+    ∙ joined_append cut.front cut.back ∙ ap (λ x. lines_text cut.front ++ x) back
+    ∙ sym (append_assoc (lines_text cut.front) (flat texts) (ended (codes "end"))) in
+    rw behind.last_is
+    (record {
+      certificate = lines_text cut.front;
+      of_certificate = read_is_cert (lines_text cut.front) cut.cert certificate;
+      questions =
+          texts;
+      of_questions = are;
+      whole = all;
+    })
 
 pub ask_is_read : (text : List ℕ) (c : CertView) (queries : List Query) → SpellsAsk text c queries → ReadsAsAsk text c queries
 ask_is_read text c queries s =
     let (cert, (count, reaches, ends), view) = text_is_cert s.certificate c s.of_certificate in
-    let asking = asks_all [] (flat s.questions) queries (text_of s.questions queries s.of_questions) in
+    let asking = asks_all [] (flat s.questions) queries
+    (text_of s.questions queries s.of_questions) in
     let last = with_questions cert true (after queries) in
     let first = runs_inside CertSteps AskSteps with_cert (λ x u line p. (not_ended x no_questions, inl ((λ e. cert_exact.over x u line e p), u, p, refl))) cert_start cert reaches.lines reaches.good in
     let then = runs_inside TakesQuestion AskSteps (with_questions cert false) (λ x u line p. (not_ended cert x, inr (ends, inl (u, p, refl)))) no_questions (after queries) asking.lines asking.runs in

@@ -1,4 +1,5 @@
--- The text of a live run is that of one history, of what each session was told, and of one certificate.
+-- The text of a live run is that of one history, of what each session was told, and of one
+-- certificate.
 use Rattle.std.proofs.Common.{◌≡◌, ◌≢◌, ◌≤◌, ◌<◌, ◌+◌, ◌++◌, ℕ, suc, pos, Bool, true, false, cond, List, [], ◌∷◌, map, length, length-append, flat_map, codes, All, Some, rules, refl, sym, ap, ap₂, subst, ◌∙◌, arith, append_assoc, append-nil}
 use Rattle.std.specs.Prelude.{Contains}
 use Rattle.std.specs.Cmp.Lexicographic.{slice_cmp}
@@ -198,41 +199,58 @@ joined_said : (told : List Said) → lines_text (map said_line told) ≡ flat_ma
 joined_said [] = refl
 joined_said (s ∷ told) = ap₂ (λ (x y : List ℕ). x ++ y) (sym (said_is_line s)) (joined_said told)
 
-joined_told : (n : ℕ) (S : List (List Said)) → lines_text (told_lines n S) ≡ flat_map session_text (enumerate_from n S)
+joined_told : (n : ℕ) (S : List (List Said))
+    → lines_text (told_lines n S) ≡ flat_map session_text (enumerate_from n S)
 joined_told n [] = refl
 joined_told n (told ∷ S) =
     let head = ended (session_line n) in
-    let parts : lines_text (map said_line told ++ told_lines (n + 1) S) ≡ flat_map said_text told ++ flat_map session_text (enumerate_from (n + 1) S) =
-    joined_append (map said_line told) (told_lines (n + 1) S) ∙ ap₂ (λ (x y : List ℕ). x ++ y) (joined_said told) (joined_told (n + 1) S) in
-    ap (λ x. head ++ x) parts ∙ sym (append_assoc head (flat_map said_text told) (flat_map session_text (enumerate_from (n + 1) S)))
+    let parts : lines_text
+    (map said_line told ++ told_lines
+    (n + 1) S) ≡ flat_map said_text told ++ flat_map session_text (enumerate_from (n + 1) S) =
+    joined_append (map said_line told) (told_lines (n + 1) S)
+    ∙ ap₂ (λ (x y : List ℕ). x ++ y) (joined_said told) (joined_told (n + 1) S) in
+    ap (λ x. head ++ x) parts
+    ∙ sym (append_assoc head (flat_map said_text told)
+    (flat_map session_text (enumerate_from (n + 1) S)))
 
 -- no line has an LF, and none is `end`
 abbrev AreBeforeEnd : List (List ℕ) → Type 0
 AreBeforeEnd [] = Unit {0}
 AreBeforeEnd (line ∷ lines) = HasNoLf line × (line ≡ codes "end" → ⊥) × AreBeforeEnd lines
 
-said_before : (told : List Said) (more : List (List ℕ)) → AreBeforeEnd more → AreBeforeEnd (map said_line told ++ more)
+said_before : (told : List Said) (more : List (List ℕ)) → AreBeforeEnd more
+    → AreBeforeEnd (map said_line told ++ more)
 said_before [] more h = h
 said_before (s ∷ told) more h = (said_no_lf s, no_end_line s, said_before told more h)
 
 session_no_lf : (n : ℕ) → HasNoLf (session_line n)
-session_no_lf n = numbers_no_lf (codes "session") (pos n ∷ []) (clear_no_lf (codes "session") (search rules))
+session_no_lf n = numbers_no_lf (codes "session") (pos n ∷ [])
+    (clear_no_lf (codes "session") (search rules))
 
 told_before : (n : ℕ) (S : List (List Said)) → AreBeforeEnd (told_lines n S)
 told_before n [] = tt
-told_before n (told ∷ S) = (session_no_lf n, (λ e. heads_differ 115 101 _ _ e (omega arith)), said_before told (told_lines (n + 1) S) (told_before (n + 1) S))
+told_before n (told ∷ S) = (
+  session_no_lf n,
+  (λ e. heads_differ 115 101 _ _ e (omega arith)),
+  said_before told (told_lines (n + 1) S) (told_before (n + 1) S),
+)
 
 -- the lines before the first `end` are determined, and what follows it
-lines_until : (xs ys : List (List ℕ)) (a b : List ℕ) → AreBeforeEnd xs → AreBeforeEnd ys → lines_text xs ++ (ended (codes "end") ++ a) ≡ lines_text ys ++ (ended (codes "end") ++ b) → (xs ≡ ys) × (a ≡ b)
+lines_until : (xs ys : List (List ℕ)) (a b : List ℕ) → AreBeforeEnd xs → AreBeforeEnd ys
+    → lines_text xs ++ (ended (codes "end") ++ a) ≡ lines_text ys ++ (ended (codes "end") ++ b)
+    → (xs ≡ ys) × (a ≡ b)
 lines_until [] [] a b p q e = (refl, append_cancel_left (ended (codes "end")) a b e)
 lines_until [] (y ∷ ys) a b p q e =
-    let one = line_once (codes "end") y a (lines_text ys ++ (ended (codes "end") ++ b)) (e ∙ opened y ys (ended (codes "end") ++ b)) end_no_lf q.0 in absurd (q.1 (sym one.0))
+    let one = line_once (codes "end") y a (lines_text ys ++ (ended (codes "end") ++ b))
+    (e ∙ opened y ys (ended (codes "end") ++ b)) end_no_lf q.0 in absurd (q.1 (sym one.0))
 lines_until (x ∷ xs) [] a b p q e =
-    let one = line_once x (codes "end") (lines_text xs ++ (ended (codes "end") ++ a)) b (sym (opened x xs (ended (codes "end") ++ a)) ∙ e) p.0 end_no_lf in absurd (p.1 one.0)
+    let one = line_once x (codes "end") (lines_text xs ++ (ended (codes "end") ++ a)) b
+    (sym (opened x xs (ended (codes "end") ++ a)) ∙ e) p.0 end_no_lf in absurd (p.1 one.0)
 lines_until (x ∷ xs) (y ∷ ys) a b p q e =
     let front = ended (codes "end") ++ a in
     let back = ended (codes "end") ++ b in
-    let one = line_once x y (lines_text xs ++ front) (lines_text ys ++ back) (sym (opened x xs front) ∙ e ∙ opened y ys back) p.0 q.0 in
+    let one = line_once x y (lines_text xs ++ front) (lines_text ys ++ back)
+    (sym (opened x xs front) ∙ e ∙ opened y ys back) p.0 q.0 in
     let more = lines_until xs ys a b p.2 q.2 one.1 in
     (ap₂ (λ (l : List ℕ) (ls : List (List ℕ)). l ∷ ls) one.0 more.0, more.1)
 
@@ -246,33 +264,49 @@ told_next n [] = tt
 told_next n (told ∷ S) = (n, refl)
 
 -- the lines of a session up to the next one say what it was told
-session_once : (s t : List Said) (xs ys : List (List ℕ)) → All IsSayable s → All IsSayable t → IsNext xs → IsNext ys → map said_line s ++ xs ≡ map said_line t ++ ys → (s ≡ t) × (xs ≡ ys)
+session_once : (s t : List Said) (xs ys : List (List ℕ)) → All IsSayable s → All IsSayable t
+    → IsNext xs → IsNext ys → map said_line s ++ xs ≡ map said_line t ++ ys → (s ≡ t) × (xs ≡ ys)
 session_once [] [] xs ys p q f g e = (refl, e)
 session_once [] (v ∷ t) [] ys p q f g e = absurd (cc)
-session_once [] (v ∷ t) (x ∷ xs) ys p q f g e = absurd (no_session_line v f.0 (sym (head_line x (said_line v) xs (map said_line t ++ ys) e) ∙ f.1))
+session_once [] (v ∷ t) (x ∷ xs) ys p q f g e =
+    absurd (no_session_line v f.0
+    (sym (head_line x (said_line v) xs (map said_line t ++ ys) e) ∙ f.1))
 session_once (u ∷ s) [] xs [] p q f g e = absurd (cc)
-session_once (u ∷ s) [] xs (y ∷ ys) p q f g e = absurd (no_session_line u g.0 (head_line (said_line u) y (map said_line s ++ xs) ys e ∙ g.1))
+session_once (u ∷ s) [] xs (y ∷ ys) p q f g e =
+    absurd (no_session_line u g.0 (head_line (said_line u) y (map said_line s ++ xs) ys e ∙ g.1))
 session_once (u ∷ s) (v ∷ t) xs ys p q f g e =
-    let here = said_once u v (All-head IsSayable u s p) (All-head IsSayable v t q) (head_line (said_line u) (said_line v) (map said_line s ++ xs) (map said_line t ++ ys) e) in
-    let more = session_once s t xs ys (All-tail IsSayable u s p) (All-tail IsSayable v t q) f g (tail_lines (said_line u) (said_line v) (map said_line s ++ xs) (map said_line t ++ ys) e) in
+    let here = said_once u v (All-head IsSayable u s p) (All-head IsSayable v t q)
+    (head_line (said_line u) (said_line v) (map said_line s ++ xs) (map said_line t ++ ys) e) in
+    let more = session_once s t xs ys (All-tail IsSayable u s p) (All-tail IsSayable v t q) f g
+    (tail_lines (said_line u) (said_line v) (map said_line s ++ xs)
+    (map said_line t ++ ys) e) in
     (ap₂ (λ (x : Said) (l : List Said). x ∷ l) here more.0, more.1)
 
-sessions_once : (n : ℕ) (S T : List (List Said)) → All (All IsSayable) S → All (All IsSayable) T → told_lines n S ≡ told_lines n T → S ≡ T
+sessions_once : (n : ℕ) (S T : List (List Said)) → All (All IsSayable) S → All (All IsSayable) T
+    → told_lines n S ≡ told_lines n T → S ≡ T
 sessions_once n [] [] p q e = refl
 sessions_once n [] (t ∷ T) p q e = absurd (cc)
 sessions_once n (s ∷ S) [] p q e = absurd (cc)
 sessions_once n (s ∷ S) (t ∷ T) p q e =
-    let later = tail_lines (session_line n) (session_line n) (map said_line s ++ told_lines (n + 1) S) (map said_line t ++ told_lines (n + 1) T) e in
-    let here = session_once s t (told_lines (n + 1) S) (told_lines (n + 1) T) (All-head (All IsSayable) s S p) (All-head (All IsSayable) t T q) (told_next (n + 1) S) (told_next (n + 1) T) later in
-    ap₂ (λ (x : List Said) (l : List (List Said)). x ∷ l) here.0 (sessions_once (n + 1) S T (All-tail (All IsSayable) s S p) (All-tail (All IsSayable) t T q) here.1)
+    let later = tail_lines (session_line n) (session_line n)
+    (map said_line s ++ told_lines (n + 1) S) (map said_line t ++ told_lines (n + 1) T) e in
+    let here = session_once s t (told_lines (n + 1) S) (told_lines (n + 1) T)
+    (All-head (All IsSayable) s S p) (All-head (All IsSayable) t T q) (told_next (n + 1) S)
+    (told_next (n + 1) T) later in
+    ap₂ (λ (x : List Said) (l : List (List Said)). x ∷ l) here.0
+    (sessions_once (n + 1) S T (All-tail (All IsSayable) s S p)
+    (All-tail (All IsSayable) t T q) here.1)
 
-regroup : (live head events told end cert : List ℕ) → ((((live ++ (head ++ events)) ++ told) ++ end) ++ cert) ≡ (live ++ (head ++ [])) ++ (events ++ (told ++ (end ++ cert)))
+regroup : (live head events told end cert : List ℕ)
+    → ((((live ++ (head ++ events)) ++ told) ++ end) ++ cert) ≡ (live ++ (head ++ [])) ++
+    (events ++ (told ++ (end ++ cert)))
 regroup live head events told end cert = simp (append_assoc, append-nil)
 
 abbrev head_lines : ℕ → List (List ℕ)
 head_lines n = line_of (codes "live") (pos 1 ∷ []) ∷ line_of (codes "journal") (pos n ∷ []) ∷ []
 
-module _ (vs : List Vertex) (b : Budget) (H : History) (S : List (List Said)) (text : List ℕ) (legal : IsLegal (region_of vs) b.wits H) (t : IsLiveTextOf vs b H S text) where
+module _ (vs : List Vertex) (b : Budget) (H : History) (S : List (List Said)) (text : List ℕ)
+    (legal : IsLegal (region_of vs) b.wits H) (t : IsLiveTextOf vs b H S text) where
   abbrev pub cert : CertView
   cert = cert_of vs b t.snapshot
 
@@ -299,9 +333,13 @@ module _ (vs : List Vertex) (b : Budget) (H : History) (S : List (List Said)) (t
     (line_no_lf (codes "journal") (pos (length H) ∷ []) (high_plain (codes "journal") (search rules)) (count_fits (length H) few), tt),
   )
 
-  pub text_is : text ≡ lines_text (head_lines (length H)) ++ (lines_text (map event_line H) ++ (lines_text (told_lines 1 S) ++ (ended (codes "end") ++ cert_text cert)))
+  pub text_is : text ≡ lines_text (head_lines (length H)) ++
+      (lines_text (map event_line H) ++
+      (lines_text (told_lines 1 S) ++ (ended (codes "end") ++ cert_text cert)))
   text_is =
-      t.written ∙ rw (joined_events H, joined_told 1 S) (regroup (count_text (codes "live") 1) (count_text (codes "journal") (length H)) (flat_map event_text H) (sessions_text S) (ended (codes "end")) (cert_text cert))
+      t.written ∙ rw (joined_events H, joined_told 1 S)
+      (regroup (count_text (codes "live") 1) (count_text (codes "journal") (length H))
+      (flat_map event_text H) (sessions_text S) (ended (codes "end")) (cert_text cert))
 
 journal_once : (m n : ℕ) → m ≤ 65536 → n ≤ 65536 → head_lines m ≡ head_lines n → m ≡ n
 journal_once m n small few e =
@@ -312,24 +350,37 @@ journal_once m n small few e =
     let numbers = says_once (codes "journal") (line_of (codes "journal") (pos n ∷ [])) (pos m ∷ []) (pos n ∷ []) (rw line at said) other in
     cc
 
-same_size : (G H : History) → length G ≡ length H → length (map event_line G) ≡ length (map event_line H)
+same_size : (G H : History) → length G ≡ length H
+    → length (map event_line G) ≡ length (map event_line H)
 same_size G H e = omega (arith, length-map G event_line, length-map H event_line, e)
 
-pub live_text_is_one : ((text : List ℕ) (b c : CertView) → SpellsCertificate text b → SpellsCertificate text c → b ≡ c)
-    → (vs ws : List Vertex) (a b : Budget) (G H : History) (S T : List (List Said)) (text : List ℕ) → All (All IsSayable) S → All (All IsSayable) T
-    → IsLegal (region_of vs) a.wits G → IsLegal (region_of ws) b.wits H → IsLiveTextOf vs a G S text → IsLiveTextOf ws b H T text
+pub live_text_is_one :
+    ((text : List ℕ) (b c : CertView) → SpellsCertificate text b → SpellsCertificate text c → b ≡ c)
+    → (vs ws : List Vertex) (a b : Budget) (G H : History) (S T : List (List Said)) (text : List ℕ)
+    → All (All IsSayable) S → All (All IsSayable) T
+    → IsLegal (region_of vs) a.wits G → IsLegal (region_of ws) b.wits H → IsLiveTextOf vs a G S text
+    → IsLiveTextOf ws b H T text
     → (vs ≡ ws) × (a ≡ b) × (G ≡ H) × (S ≡ T)
 live_text_is_one one vs ws a b G H S T text p q lg lh t u =
     let both = sym (text_is vs a G S text lg t) ∙ text_is ws b H T text lh u in
-    let heads = lines_once (head_lines (length G)) (head_lines (length H)) _ _ (heads_plain vs a G S text lg t) (heads_plain ws b H T text lh u) refl both in
-    let count = journal_once (length G) (length H) (few vs a G S text lg t) (few ws b H T text lh u) heads.0 in
-    let events = lines_once (map event_line G) (map event_line H) _ _ (lines_plain vs a G S text lg t) (lines_plain ws b H T text lh u) (same_size G H count) heads.1 in
-    let rest = lines_until (told_lines 1 S) (told_lines 1 T) (cert_text (cert vs a G S text lg t)) (cert_text (cert ws b H T text lh u)) (told_before 1 S) (told_before 1 T) events.1 in
+    let heads = lines_once (head_lines (length G)) (head_lines (length H)) _ _
+    (heads_plain vs a G S text lg t) (heads_plain ws b H T text lh u) refl both in
+    let count = journal_once (length G) (length H) (few vs a G S text lg t)
+    (few ws b H T text lh u) heads.0 in
+    let events = lines_once (map event_line G) (map event_line H) _ _
+    (lines_plain vs a G S text lg t) (lines_plain ws b H T text lh u)
+    (same_size G H count) heads.1 in
+    let rest = lines_until (told_lines 1 S) (told_lines 1 T) (cert_text (cert vs a G S text lg t))
+    (cert_text (cert ws b H T text lh u)) (told_before 1 S) (told_before 1 T) events.1 in
     let certs : cert vs a G S text lg t ≡ cert ws b H T text lh u =
-    one (cert_text (cert vs a G S text lg t)) (cert vs a G S text lg t) (cert ws b H T text lh u) (record { certificate = t.certificate; spelled = refl }) (record { certificate = u.certificate; spelled = rest.1 }) in
+    one (cert_text (cert vs a G S text lg t)) (cert vs a G S text lg t) (cert ws b H T text lh u)
+    (record { certificate = t.certificate; spelled = refl })
+    (record { certificate = u.certificate; spelled = rest.1 }) in
     let Tree = outcome_at (cert vs a G S text lg t).events in (
       ap (λ (c : CertView). c.vertices) certs,
       ap (λ (c : CertView). c.limits) certs,
-      history_once Tree G H (has vs a G S text lg t) (subst (λ (c : CertView). Has (outcome_at c.events) H) (sym certs) (has ws b H T text lh u)) events.0,
+      history_once Tree G H (has vs a G S text lg t)
+          (subst (λ (c : CertView). Has (outcome_at c.events) H) (sym certs)
+          (has ws b H T text lh u)) events.0,
       sessions_once 1 S T p q rest.0,
     )

@@ -18,7 +18,8 @@ pub first : (a b : ℕ) (xs ys : List ℕ) → a ∷ xs ≡ b ∷ ys → a ≡ b
 first a b xs ys e = cc
 
 -- two words with different first bytes don't begin one line
-pub two_words : (a b : ℕ) (xs ys line : List ℕ) → a ≢ b → HasWord (a ∷ xs) line → HasWord (b ∷ ys) line → ⊥
+pub two_words : (a b : ℕ) (xs ys line : List ℕ) → a ≢ b → HasWord (a ∷ xs) line
+    → HasWord (b ∷ ys) line → ⊥
 two_words a b xs ys line ne v w = ne (first a b xs ys (word_once (a ∷ xs) (b ∷ ys) line v w))
 
 point_region : (line : List ℕ) → HasWord (codes "point") line → HasWord (codes "region") line → ⊥
@@ -144,33 +145,43 @@ question_slips s line d e m n (inl (a, f)) (inr (b, g)) = absurd (omega arith)
 question_slips s line d e m n (inr (a, f)) (inl (b, g)) = absurd (omega arith)
 question_slips s line d e m n (inr (a, f)) (inr (b, g)) = asked_slips line d e m n f g
 
--- a line whose first token begins otherwise than those of questions is none, where no vertex is awaited
-pub other_no_question : (b : ℕ) (bs line : List ℕ) (s t : Questions) → b ≢ 112 → b ≢ 114 → b ≢ 111 → HasWord (b ∷ bs) line → s.ring.left ≡ 0 → TakesQuestion s line t → ⊥
+-- a line whose first token begins otherwise than those of questions is none, where no vertex is
+-- awaited
+pub other_no_question : (b : ℕ) (bs line : List ℕ) (s t : Questions) → b ≢ 112 → b ≢ 114 → b ≢ 111
+    → HasWord (b ∷ bs) line → s.ring.left ≡ 0 → TakesQuestion s line t → ⊥
 other_no_question b bs line s t p r o w zero (inl (a, q)) = omega arith
 other_no_question b bs line s t p r o w zero (inr (a, inl (v, q))) = two_words b 112 bs _ line p w v
-other_no_question b bs line s t p r o w zero (inr (a, inr (inl (v, q)))) = two_words b 114 bs _ line r w v
-other_no_question b bs line s t p r o w zero (inr (a, inr (inr (v, q)))) = two_words b 111 bs _ line o w v
+other_no_question b bs line s t p r o w zero (inr (a, inr (inl (v, q)))) =
+    two_words b 114 bs _ line r w v
+other_no_question b bs line s t p r o w zero (inr (a, inr (inr (v, q)))) =
+    two_words b 111 bs _ line o w v
 
 -- the line `end` is none of a question, where no vertex is awaited
 pub end_no_question : (s t : Questions) → s.ring.left ≡ 0 → TakesQuestion s (codes "end") t → ⊥
 end_no_question s t zero p =
-    other_no_question 101 _ (codes "end") s t (λ e. omega (arith, e)) (λ e. omega (arith, e)) (λ e. omega (arith, e)) (record { fields = []; split = refl }) zero p
+    other_no_question 101 _ (codes "end") s t (λ e. omega (arith, e)) (λ e. omega (arith, e))
+    (λ e. omega (arith, e)) (record { fields = []; split = refl }) zero p
 
 -- the first token of a line that asks by one word
-asks_word : (line : List ℕ) (query : Query) → AsksByWord line query → HasWord (codes "fresh") line ⊎ HasWord (codes "count") line
+asks_word : (line : List ℕ) (query : Query) → AsksByWord line query → HasWord (codes "fresh") line
+    ⊎ HasWord (codes "count") line
 asks_word line query (inl (e, f)) = inl (rw e (record { fields = []; split = refl }))
 asks_word line query (inr (e, f)) = inr (rw e (record { fields = []; split = refl }))
 
 -- no line asks a question by one word that it asks otherwise too
-word_no_question : (line : List ℕ) (query : Query) (s t : Questions) → AsksByWord line query → s.ring.left ≡ 0 → TakesQuestion s line t → ⊥
+word_no_question : (line : List ℕ) (query : Query) (s t : Questions) → AsksByWord line query
+    → s.ring.left ≡ 0 → TakesQuestion s line t → ⊥
 word_no_question line query s t asks zero p =
     elim (asks_word line query asks) [
-      | inl w ↦ other_no_question 102 _ line s t (λ e. omega (arith, e)) (λ e. omega (arith, e)) (λ e. omega (arith, e)) w zero p
-      | inr w ↦ other_no_question 99 _ line s t (λ e. omega (arith, e)) (λ e. omega (arith, e)) (λ e. omega (arith, e)) w zero p
+      | inl w ↦ other_no_question 102 _ line s t (λ e. omega (arith, e)) (λ e. omega (arith, e))
+          (λ e. omega (arith, e)) w zero p
+      | inr w ↦ other_no_question 99 _ line s t (λ e. omega (arith, e)) (λ e. omega (arith, e))
+          (λ e. omega (arith, e)) w zero p
     ]
 
 fresh_count : (line : List ℕ) → line ≡ codes "fresh" → line ≡ codes "count" → ⊥
-fresh_count line e f = let same : codes "fresh" ≡ codes "count" = sym e ∙ f in omega (arith, first 102 99 _ _ same)
+fresh_count line e f = let same : codes "fresh" ≡ codes "count" = sym e ∙ f in
+    omega (arith, first 102 99 _ _ same)
 
 asked_word_once : (line : List ℕ) (p q : Query) → AsksByWord line p → AsksByWord line q → p ≡ q
 asked_word_once line p q (inl (e, f)) (inl (g, h)) = f ∙ sym h
@@ -178,19 +189,31 @@ asked_word_once line p q (inl (e, f)) (inr (g, h)) = absurd (fresh_count line e 
 asked_word_once line p q (inr (e, f)) (inl (g, h)) = absurd (fresh_count line g e)
 asked_word_once line p q (inr (e, f)) (inr (g, h)) = f ∙ sym h
 
-pub in_session_once : (s t u : Questions) (line : List ℕ) → TakesInSession s line t → TakesInSession s line u → t ≡ u
+pub in_session_once : (s t u : Questions) (line : List ℕ) → TakesInSession s line t
+    → TakesInSession s line u → t ≡ u
 in_session_once s t u line (inl p) (inl q) = question_once s t u line p q
-in_session_once s t u line (inl p) (inr (zero, query, asks, e)) = absurd (word_no_question line query s t asks zero p)
-in_session_once s t u line (inr (zero, query, asks, e)) (inl q) = absurd (word_no_question line query s u asks zero q)
-in_session_once s t u line (inr (zero, p, asks, e)) (inr (zero', q, asks', f)) = rw (e, f, asked_word_once line p q asks asks') refl
+in_session_once s t u line (inl p) (inr (zero, query, asks, e)) =
+    absurd (word_no_question line query s t asks zero p)
+in_session_once s t u line (inr (zero, query, asks, e)) (inl q) =
+    absurd (word_no_question line query s u asks zero q)
+in_session_once s t u line (inr (zero, p, asks, e)) (inr (zero', q, asks', f)) =
+    rw (e, f, asked_word_once line p q asks asks') refl
 
-pub in_session_apart : (s t : Questions) (line : List ℕ) (slip : Slip) (back : ℕ) → TakesInSession s line t → SlipsInSession s line slip back → ⊥
+pub in_session_apart : (s t : Questions) (line : List ℕ) (slip : Slip) (back : ℕ)
+    → TakesInSession s line t → SlipsInSession s line slip back → ⊥
 in_session_apart s t line slip back (inl p) (none, f) = question_apart s t line slip back p f
 in_session_apart s t line slip back (inr (zero, query, asks, e)) (none, f) = none zero query asks
 
--- the first token of a line that is one word of its own is none of those by which a session's question is asked
-pub other_in_session : (b : ℕ) (bs line : List ℕ) (s t : Questions) → b ≢ 112 → b ≢ 114 → b ≢ 111 → b ≢ 102 → b ≢ 99 → HasWord (b ∷ bs) line
+-- the first token of a line that is one word of its own is none of those by which a session's
+-- question is asked
+pub other_in_session : (b : ℕ) (bs line : List ℕ) (s t : Questions) → b ≢ 112 → b ≢ 114 → b ≢ 111
+    → b ≢ 102 → b ≢ 99 → HasWord (b ∷ bs) line
     → s.ring.left ≡ 0 → TakesInSession s line t → ⊥
-other_in_session b bs line s t p r o f c w zero (inl q) = other_no_question b bs line s t p r o w zero q
+other_in_session b bs line s t p r o f c w zero (inl q) =
+    other_no_question b bs line s t p r o w zero q
 other_in_session b bs line s t p r o f c w zero (inr (zero', query, asks, e)) =
-    elim (asks_word line query asks) [ inl v ↦ two_words b 102 bs _ line f w v | inr v ↦ two_words b 99 bs _ line c w v ]
+    elim (asks_word line query asks) [
+      | inl v ↦ two_words b 102 bs _ line f w v
+      | inr v ↦ two_words b
+          99 bs _ line c w v
+    ]

@@ -32,7 +32,8 @@ abbrev pub after : List Query → Questions
 after queries = record { ring = no_ring; queries = queries }
 
 -- lines that ask these questions more
-abbrev pub Asking : (Questions → List ℕ → Questions → Type 0) → List Query → List Query → List ℕ → Type 0
+abbrev pub Asking : (Questions → List ℕ → Questions → Type 0) → List Query → List Query → List ℕ
+    → Type 0
 Asking Steps before queries text = Leads Steps (after before) text (after (before ++ queries))
 
 place_fits : (r : Place) → IsPtSized r → All (FitsSigned w64) (place_numbers r)
@@ -64,7 +65,8 @@ ring_asks before r s (line ∷ l ∷ lines) more zero (u, (a, takes), plain, run
     let left : 0 < u.left = runs.1.0 in
     (record { ring = u; queries = before }, inl (a, (u, takes, inl (left, refl))), plain, ring_asks before u s (l ∷ lines) left zero runs)
 
-asks_polygon : (before : List Query) (text : List ℕ) (vs : List Vertex) → IsPolygon vs → text ≡ region_text vs → Asking TakesQuestion before (Polygon (region_of vs) ∷ []) text
+asks_polygon : (before : List Query) (text : List ℕ) (vs : List Vertex) → IsPolygon vs
+    → text ≡ region_text vs → Asking TakesQuestion before (Polygon (region_of vs) ∷ []) text
 asks_polygon before text vs p e =
     let head = line_of (codes "region") (pos (length vs) ∷ []) in
     let opens = opened (codes "region") vs region_plain p in
@@ -82,7 +84,8 @@ asks_polygon before text vs p e =
       );
     }
 
-asks_one : (before : List Query) (text : List ℕ) (query : Query) → IsQuestion text query → Asking TakesQuestion before (query ∷ []) text
+asks_one : (before : List Query) (text : List ℕ) (query : Query) → IsQuestion text query
+    → Asking TakesQuestion before (query ∷ []) text
 asks_one before text Fresh q = absurd q
 asks_one before text Count q = absurd q
 asks_one before text (Point r) (sized, e) =
@@ -122,36 +125,48 @@ fresh_no_lf = clear_no_lf (codes "fresh") (search rules)
 count_no_lf : HasNoLf (codes "count")
 count_no_lf = clear_no_lf (codes "count") (search rules)
 
-by_word : (before : List Query) (line text : List ℕ) (query : Query) → HasNoLf line → AsksByWord line query → text ≡ ended line → Asking TakesInSession before (query ∷ []) text
+by_word : (before : List Query) (line text : List ℕ) (query : Query) → HasNoLf line
+    → AsksByWord line query → text ≡ ended line → Asking TakesInSession before (query ∷ []) text
 by_word before line text query plain asks e = record {
   lines = line ∷ [];
   spelled = one_line line text e;
   runs = (after (before ++ query ∷ []), inr (refl, query, asks, refl), plain, refl);
 }
 
-as_in_ask : (before : List Query) (text : List ℕ) (query : Query) → IsQuestion text query → Asking TakesInSession before (query ∷ []) text
+as_in_ask : (before : List Query) (text : List ℕ) (query : Query) → IsQuestion text query
+    → Asking TakesInSession before (query ∷ []) text
 as_in_ask before text query q =
-    leads_inside TakesQuestion TakesInSession (λ (x : Questions). x) (λ x u line p. inl p) (after before) (after (before ++ query ∷ [])) text (asks_one before text query q)
+    leads_inside TakesQuestion TakesInSession (λ (x : Questions). x) (λ x u line p. inl p)
+    (after before) (after (before ++ query ∷ [])) text (asks_one before text query q)
 
-session_asks : (before : List Query) (text : List ℕ) (query : Query) → IsSessionQuestion text query → Asking TakesInSession before (query ∷ []) text
-session_asks before text Fresh e = by_word before (codes "fresh") text Fresh fresh_no_lf (inl (refl, refl)) e
-session_asks before text Count e = by_word before (codes "count") text Count count_no_lf (inr (refl, refl)) e
+session_asks : (before : List Query) (text : List ℕ) (query : Query) → IsSessionQuestion text query
+    → Asking TakesInSession before (query ∷ []) text
+session_asks before text Fresh e =
+    by_word before (codes "fresh") text Fresh fresh_no_lf (inl (refl, refl)) e
+session_asks before text Count e =
+    by_word before (codes "count") text Count count_no_lf (inr (refl, refl)) e
 session_asks before text (Point r) q = as_in_ask before text (Point r) q
 session_asks before text (Polygon area) q = as_in_ask before text (Polygon area) q
 session_asks before text (Orbit r z n) q = as_in_ask before text (Orbit r z n) q
 
 module _ (Asks : List ℕ → Query → Type 0) (Steps : Questions → List ℕ → Questions → Type 0)
-    (one : (before : List Query) (text : List ℕ) (query : Query) → Asks text query → Asking Steps before (query ∷ []) text) where
-  all_lines : (before : List Query) (text : List ℕ) (queries : List Query) → SpellsAll Asks text queries → Asking Steps before queries text
+    (one : (before : List Query) (text : List ℕ) (query : Query) → Asks text query
+    → Asking Steps before (query ∷ []) text) where
+  all_lines : (before : List Query) (text : List ℕ) (queries : List Query)
+      → SpellsAll Asks text queries → Asking Steps before queries text
   all_lines before text [] e = rw (e, append-nil before) (leads_nowhere Steps (after before))
   all_lines before text (q ∷ queries) (first, rest, whole, here, more) =
-      let all : (before ++ q ∷ []) ++ queries ≡ before ++ q ∷ queries = append_assoc before (q ∷ []) queries in
+      let all : (before ++ q ∷ []) ++ queries ≡ before ++ q ∷ queries =
+      append_assoc before (q ∷ []) queries in
       let behind = rw all at (all_lines (before ++ q ∷ []) rest queries more) in
-      rw whole (leads_on Steps (after before) (after (before ++ q ∷ [])) (after (before ++ q ∷ queries)) first rest (one before first q here) behind)
+      rw whole (leads_on Steps (after before) (after (before ++ q ∷ []))
+      (after (before ++ q ∷ queries)) first rest (one before first q here) behind)
 
 -- the text of questions is read, in `ask` and in a session
-pub asks_all : (before : List Query) (text : List ℕ) (queries : List Query) → SpellsAll IsQuestion text queries → Asking TakesQuestion before queries text
+pub asks_all : (before : List Query) (text : List ℕ) (queries : List Query)
+    → SpellsAll IsQuestion text queries → Asking TakesQuestion before queries text
 asks_all = all_lines IsQuestion TakesQuestion asks_one
 
-pub session_asks_all : (before : List Query) (text : List ℕ) (queries : List Query) → SpellsAll IsSessionQuestion text queries → Asking TakesInSession before queries text
+pub session_asks_all : (before : List Query) (text : List ℕ) (queries : List Query)
+    → SpellsAll IsSessionQuestion text queries → Asking TakesInSession before queries text
 session_asks_all = all_lines IsSessionQuestion TakesInSession session_asks

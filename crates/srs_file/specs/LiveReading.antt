@@ -28,21 +28,24 @@ SessionsEnd old line = IsFree old.sessions × (line ≡ codes "end")
 -- a line of a session, or the one that ends them
 abbrev pub StepsInSessions : LiveReader → List ℕ → LiveReader → Type 0
 StepsInSessions old line new =
-    ((sessions : SessionsView) × TakesSession old.sessions line sessions × (new ≡ record old { sessions = sessions }))
+    ((sessions : SessionsView) × TakesSession old.sessions line sessions
+    × (new ≡ record old { sessions = sessions }))
     ⊎ (SessionsEnd old line × (new ≡ record old { sessions = closed old.sessions; ended = true }))
 
 -- a line of the polygon while it isn't whole, and then of the sessions
 abbrev pub LiveSteps : LiveReader → List ℕ → LiveReader → Type 0
 LiveSteps old line new =
     (¬ (LiveEnds old))
-    × (((¬ (IsWholeOutline old.outline)) × (outline : Outline) × TakesOutline old.outline line outline × (new ≡ record old { outline = outline }))
+    × (((¬ (IsWholeOutline old.outline)) × (outline : Outline) × TakesOutline old.outline line outline
+    × (new ≡ record old { outline = outline }))
     ⊎ (IsWholeOutline old.outline × StepsInSessions old line new))
 
 -- what is wrong with a line of the polygon, or of the sessions
 abbrev pub LiveSlips : LiveReader → List ℕ → Slip → ℕ → Type 0
 LiveSlips old line slip back =
     ((¬ (IsWholeOutline old.outline)) × SlipsOutline old.outline line slip back)
-    ⊎ (IsWholeOutline old.outline × (¬ (SessionsEnd old line)) × SlipsSession old.sessions line slip back)
+    ⊎ (IsWholeOutline old.outline × (¬ (SessionsEnd old line))
+    × SlipsSession old.sessions line slip back)
 
 -- line by line, the text gives these vertices and these sessions
 abbrev pub ReadsAsLive : List ℕ → List Vertex → List (List Segment) → Type 0
@@ -66,5 +69,6 @@ IsLiveRefusal text error = IsRefused LiveSteps LiveSlips LiveEnds live_start tex
 
 -- the text is no input of `live`, unless memory was wanting
 abbrev pub IsNoLive : List ℕ → FileErr → Type 0
-IsNoLive text (At line slip) = (vs : List Vertex) (script : List (List Segment)) → SpellsLive text vs script → ⊥
+IsNoLive text (At line slip) =
+    (vs : List Vertex) (script : List (List Segment)) → SpellsLive text vs script → ⊥
 IsNoLive text NoMemory = ⊤

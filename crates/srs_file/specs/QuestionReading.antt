@@ -102,4 +102,5 @@ TakesInSession old line new =
 -- what is wrong with a vertex, or with a question of a session
 abbrev pub SlipsInSession : Questions → List ℕ → Slip → ℕ → Type 0
 SlipsInSession old line slip back =
-    ((old.ring.left ≡ 0) → (query : Query) → AsksByWord line query → ⊥) × SlipsQuestion old line slip back
+    ((old.ring.left ≡ 0) → (query : Query) → AsksByWord line query → ⊥)
+    × SlipsQuestion old line slip back

@@ -1,5 +1,5 @@
 -- The lines of sessions: `session`, the round of a segment, and the questions behind it.
-use Rattle.std.specs.Prelude.{◌≡◌, ◌≢◌, ◌⊎◌, ⊤, ℕ, ◌<◌, ◌≤◌, List, [], ◌∷◌, ◌++◌, codes, length}
+use Rattle.std.specs.Prelude.{◌≡◌, ◌⊎◌, ⊤, ℕ, ◌<◌, ◌≤◌, List, [], ◌∷◌, ◌++◌, codes, length}
 use Rattle.std.specs.List.{All}
 use Rattle.srs_tree.specs.declared.sessions.Segment.{Segment}
 use Rattle.srs_line.specs.declared.slip.Slip.{Slip}
@@ -45,13 +45,15 @@ IsLater (At last) round = last < round
 abbrev pub IsOpenFit : Stage → List (List Segment) → List Segment → Type 0
 IsOpenFit Nothing script segments = ⊤
 IsOpenFit Session script segments = (length script < 8) × (segments ≡ [])
-IsOpenFit (At round) script segments = (length script < 8) × All (λ (s : Segment). s.at < round) segments
+IsOpenFit (At round) script segments =
+    (length script < 8) × All (λ (s : Segment). s.at < round) segments
 
 -- the segments, and the open one behind them
 abbrev pub with_open : Stage → List Segment → Questions → List Segment
 with_open Nothing segments questions = segments
 with_open Session segments questions = segments
-with_open (At round) segments questions = segments ++ record { at = round; queries = questions.queries } ∷ []
+with_open (At round) segments questions =
+    segments ++ record { at = round; queries = questions.queries } ∷ []
 
 -- the segments of the open session
 abbrev pub segments_of : SessionsView → List Segment
@@ -77,7 +79,8 @@ IsFree s = s.questions.ring.left ≡ 0
 
 -- `session` begins a session, of which there are at most eight
 abbrev pub StepsSession : SessionsView → SessionsView → Type 0
-StepsSession old new = (length (script_of old) < 8) × (new ≡ record (closed old) { stage = Session })
+StepsSession old new =
+    (length (script_of old) < 8) × (new ≡ record (closed old) { stage = Session })
 
 -- a ninth session
 abbrev pub SlipsNinth : SessionsView → Slip → ℕ → Type 0
@@ -91,7 +94,8 @@ SaysRound stage round line = SaysCount (codes "at") 0 99 round line × IsLater s
 abbrev pub IsRoundSlip : Stage → List ℕ → Slip → Type 0
 IsRoundSlip stage line slip =
     IsCountSlip (codes "at") 0 99 Range line slip
-    ⊎ ((round : ℕ) × SaysCount (codes "at") 0 99 round line × (¬ (IsLater stage round)) × (slip ≡ Order))
+    ⊎ ((round : ℕ) × SaysCount (codes "at") 0 99 round line × (¬ (IsLater stage round))
+    × (slip ≡ Order))
 
 -- the line begins a segment
 abbrev pub StepsAt : SessionsView → List ℕ → SessionsView → Type 0
@@ -127,5 +131,6 @@ TakesSession old line new =
 abbrev pub SlipsSession : SessionsView → List ℕ → Slip → ℕ → Type 0
 SlipsSession old line slip back =
     (IsFree old × (line ≡ codes "session") × SlipsNinth old slip back)
-    ⊎ ((IsFree old × IsBegun old.stage × HasWord (codes "at") line × IsRoundSlip old.stage line slip × (back ≡ 0))
+    ⊎ ((IsFree old × IsBegun old.stage × HasWord (codes "at") line
+    × IsRoundSlip old.stage line slip × (back ≡ 0))
     ⊎ ((¬ (IsOpening old line)) × SlipsBehind old line slip back))

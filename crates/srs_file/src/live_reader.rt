@@ -20,8 +20,8 @@ use srs_plane::Vertices;
 use srs_tree::Script;
 use std::alloc::Global;
 
-/// A reader of a polygon and the sessions behind it, which takes them line by line. It has ended with the line behind the
-/// last session.
+/// A reader of a polygon and the sessions behind it, which takes them line by line. It has ended
+/// with the line behind the last session.
 #[derive(Drop)]
 pub struct LiveReader {
     pub outline: Outline,
@@ -86,8 +86,8 @@ impl LineMachine for LiveReader {
     }
 }
 
-/// The vertices of the polygon that the text spells, the cell of its region, and the sessions; or the first slip of
-/// the text, its lines counted from 1. The text is shorter than 2^32 - 1 bytes.
+/// The vertices of the polygon that the text spells, the cell of its region, and the sessions; or
+/// the first slip of the text, its lines counted from 1. The text is shorter than 2^32 - 1 bytes.
 pub fn read_live(alloc: Global, text: &[u8]) -> Result<(Vertices, Cell, Script), FileErr>
     requires { length text.now + 1 < 2 ^ 32 }
     ensures accepted { IfOk result (λ r. SpellsLive text.now r.0 r.2 × (r.1 ≡ region_of r.0)) }
@@ -102,8 +102,8 @@ pub fn read_live(alloc: Global, text: &[u8]) -> Result<(Vertices, Cell, Script),
     Ok((vertices, cell, reader.sessions.into_script()))
 }
 
-/// A text is an input of `live` or has a first slip, one of the two and never both; it has one first slip, and spells one
-/// list of vertices and one list of sessions.
+/// A text is an input of `live` or has a first slip, one of the two and never both; it has one first
+/// slip, and spells one list of vertices and one list of sessions.
 pub fn one_live_input()
     ensures never_both { (text : List ℕ) (vs : List Vertex) (script : List (List Segment))
         (line : ℕ) (slip : Slip) → SpellsLive text vs script → FirstLiveSlip text line slip → ⊥ }
@@ -119,7 +119,8 @@ pub fn one_live_input()
     read_or_slips::<LiveReader>();
 }
 
-/// A text of a live run is that of one run: one polygon, one history, what each session was told, one certificate.
+/// A text of a live run is that of one run: one polygon, one history, what each session was told,
+/// one certificate.
 pub fn one_live_text()
     ensures { LiveTextIsOne }
 {

@@ -12,8 +12,8 @@ use std::alloc::Global;
 use std::marker::Model;
 use std::mem;
 
-/// What is open while sessions are read: nothing before the first of them, a session that has no segment, or a session
-/// with a segment behind this round.
+/// What is open while sessions are read: nothing before the first of them, a session that has no
+/// segment, or a session with a segment behind this round.
 #[derive(Clone, Copy)]
 pub enum Stage {
     Nothing,
@@ -44,8 +44,8 @@ impl Stage {
     }
 }
 
-/// Sessions while their lines are read: those that are whole, and of the open one the segments that are whole and the
-/// questions of the open segment.
+/// Sessions while their lines are read: those that are whole, and of the open one the segments that
+/// are whole and the questions of the open segment.
 #[derive(Drop)]
 pub struct SessionLines {
     alloc: Global,
@@ -86,8 +86,8 @@ impl SessionLines {
         self.questions.wants_more()
     }
 
-    /// Takes the next line: of a vertex where one is to come, and else that which begins a session or a segment, or asks.
-    /// An `Err` may leave any sessions.
+    /// Takes the next line: of a vertex where one is to come, and else that which begins a session or
+    /// a segment, or asks. An `Err` may leave any sessions.
     pub fn take(&mut self, line: &[u8]) -> Result<(), LineErr>
         ensures ok { OnOk result (TakesSession self.old line.now self.new) }
         ensures err { IfErr result (IsSlip (SlipsSession self.old line.now)) }
