@@ -12,6 +12,11 @@ pub if_none : {X Q : Type 0} (r : Option X) → Q → IfNone r Q
 if_none None q = q
 if_none (Some x) q = tt
 
+-- what follows of what holds of none
+pub none_weaker : {X P Q : Type 0} (r : Option X) → (P → Q) → IfNone r P → IfNone r Q
+none_weaker None f p = f p
+none_weaker (Some x) f p = tt
+
 numbers_length : (ts : List (List ℕ)) (zs : List ℤ) → AreNumbers ts zs → length ts ≡ length zs
 numbers_length [] [] are = refl
 numbers_length [] (z ∷ zs) are = absurd are

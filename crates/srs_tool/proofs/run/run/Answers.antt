@@ -1,7 +1,8 @@
-use Rattle.std.proofs.Common.{◌≡◌, subst}
+use Rattle.std.proofs.Common.{◌≡◌, map, string_bytes, rules, subst}
 use Rattle.srs_tool.specs.declared.commands.Command.{Command}
 use Rattle.srs_tool.specs.declared.commands.Command.TheVariants.{Live}
 use Rattle.srs_tool.specs.declared.commands.Input.TheVariants.{Nothing, Sessions}
+use Rattle.srs_tool.specs.Words.{SpellsCommand}
 use Rattle.srs_tool.specs.Inputs.{input_of}
 use Rattle.srs_tool.proofs.Asking.{one_command, plain_asked}
 use Rattle.srs_tool.proofs.run.run.Goals as goal
@@ -9,7 +10,8 @@ use Rattle.srs_tool.proofs.run.run.Goals as goal
 pub returns-in-Some-clause-unread : goal.returns-in-Some-clause-unread
 returns-in-Some-clause-unread g c command asked none =
     let live : Command = Live c.in-Some.limits c.in-Some.workers in
-    let reads : Sessions ≡ Nothing = subst (λ (d : Command). input_of d ≡ Nothing) (one_command _ command live asked c.in-Some.ensures.some) none in
+    let this : SpellsCommand (map string_bytes c.args.words.now) live = search rules in
+    let reads : Sessions ≡ Nothing = subst (λ (d : Command). input_of d ≡ Nothing) (one_command _ command live asked this) none in
     absurd cc
 
 pub returns-in-None-clause-unread : goal.returns-in-None-clause-unread
