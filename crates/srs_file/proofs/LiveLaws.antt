@@ -1,6 +1,6 @@
 -- The text of a live run is that of one history, of what each session was told, and of one
 -- certificate.
-use Rattle.std.proofs.Common.{◌≡◌, ◌≢◌, ◌≤◌, ◌<◌, ◌+◌, ◌++◌, ℕ, suc, pos, Bool, true, false, cond, List, [], ◌∷◌, map, length, length-append, flat_map, codes, All, Some, rules, refl, sym, ap, ap₂, subst, ◌∙◌, arith, append_assoc, append-nil}
+use Rattle.std.proofs.Common.{◌≡◌, ◌≢◌, ◌≤◌, ◌<◌, ◌+◌, ◌++◌, ℕ, suc, pos, Bool, true, false, cond, List, [], ◌∷◌, map, length, flat_map, codes, All, Some, rules, refl, sym, ap, ap₂, subst, ◌∙◌, arith, append_assoc, append-nil}
 use Rattle.std.specs.Prelude.{Contains}
 use Rattle.std.specs.Cmp.Lexicographic.{slice_cmp}
 use Rattle.std.specs.FinMap as finite
@@ -17,7 +17,7 @@ use Rattle.srs_path.specs.declared.outcomes.Outcome.TheVariants.{Inside, Outside
 use Rattle.srs_path.specs.Views.{Budget, Entry}
 use Rattle.srs_tree.specs.Tree.{History, path_eq, outcome_at}
 use Rattle.srs_tree.specs.Legality.{IsLegal}
-use Rattle.srs_tree.specs.Snapshots.{side_cmp, Snapshot, tree_of, StandsFor}
+use Rattle.srs_tree.specs.Snapshots.{side_cmp, Snapshot, tree_of}
 use Rattle.srs_tree.specs.Preorder.{event_of, preorder_of}
 use Rattle.srs_tree.specs.declared.queries.Said.{Said}
 use Rattle.srs_tree.proofs.StandsLemmas.{ties}
@@ -30,9 +30,9 @@ use Rattle.srs_line.proofs.FieldLaws.{says_once}
 use Rattle.srs_line.proofs.TokenLemmas.{HasNoSpace, tokens_at}
 use Rattle.srs_line.proofs.LineTexts.{says_line, line_no_lf}
 use Rattle.srs_cert.specs.Texts.{ended, count_text}
-use Rattle.srs_cert.specs.Certificates.{CertView, IsCertificate, IsInRange, cert_text}
+use Rattle.srs_cert.specs.Certificates.{CertView, IsInRange, cert_text}
 use Rattle.srs_cert.specs.Sayings.{said_text, IsSayable}
-use Rattle.srs_cert.specs.Lives.{side_word, path_text, outcome_line, event_text, journal_text, session_text, sessions_text, live_text, cert_of, IsLiveTextOf, LiveTextIsOne}
+use Rattle.srs_cert.specs.Lives.{side_word, path_text, outcome_line, event_text, session_text, sessions_text, cert_of, IsLiveTextOf, LiveTextIsOne}
 use Rattle.srs_file.specs.Grammar.{SpellsCertificate}
 use Rattle.srs_file.proofs.LineShapes.{in_plain, out_plain, cut_plain, high_plain, count_fits, form_fits, cycle_fits, left_no_lf, end_no_lf, clear_no_lf}
 use Rattle.srs_file.proofs.Spelled.{joined_append}

@@ -1,8 +1,8 @@
 -- A line of what is said says one thing, and has no LF.
-use Rattle.std.proofs.Common.{◌≡◌, ◌≢◌, ◌≤◌, ◌<◌, ◌+◌, ◌-◌, ◌%◌, ◌/◌, ◌*◌, ◌^◌, ◌==◌, ◌++◌, ℕ, zero, suc, ℤ, pos, negsuc, unsigned_abs, Bool, true, false, cond, eqb, ltb, if◌then◌else◌, List, [], ◌∷◌, drop, get_or, length, flat_map, codes, All, Option, Some, None, rules, refl, sym, ap, subst, ◌∙◌, arith, append_assoc, append-nil, decimal}
+use Rattle.std.proofs.Common.{◌≡◌, ◌≢◌, ◌≤◌, ◌<◌, ◌+◌, ◌%◌, ◌/◌, ◌*◌, ◌^◌, ◌==◌, ◌++◌, ℕ, zero, suc, ℤ, pos, negsuc, unsigned_abs, Bool, true, false, cond, eqb, ltb, if◌then◌else◌, List, [], ◌∷◌, drop, get_or, length, codes, All, Option, Some, None, rules, refl, sym, ap, subst, ◌∙◌, arith, append_assoc, append-nil, decimal}
 use Rattle.std.specs.Fmt.{digit_glyph, digits_onto, digits, signed_decimal}
 use Rattle.std.proofs.lemmas.Fmt.{decimal_injective}
-use Rattle.std.proofs.lemmas.List.{append_cancel_left, append_cancel_right}
+use Rattle.std.proofs.lemmas.List.{append_cancel_left}
 use Rattle.std.proofs.lemmas.List.Elements.{All-nil, All-cons, All-head, All-tail, All-append}
 use Rattle.srs_num.specs.Points.{Point as Place}
 use Rattle.srs_map.specs.declared.orbits.OrbitEnd.{OrbitEnd}
