@@ -1,6 +1,6 @@
 -- The text of a live run: its journal, what each session was told, and the certificate.
 use Rattle.std.specs.Prelude.{◌≡◌, ℕ, List, [], ◌∷◌, ◌++◌, length, pos, codes}
-use Rattle.std.specs.List.{flat_map, enumerate_from}
+use Rattle.std.specs.List.{All, flat_map, enumerate_from}
 use Rattle.srs_plane.specs.declared.polygons.Vertex.{Vertex}
 use Rattle.srs_plane.specs.Polygons.{region_of}
 use Rattle.srs_path.specs.declared.paths.Side.{Side}
@@ -16,7 +16,7 @@ use Rattle.srs_tree.specs.declared.queries.Said.{Said}
 use Rattle.srs_line.specs.Fields.{line_of}
 use Rattle.srs_cert.specs.Texts.{ended, count_text, cause_text}
 use Rattle.srs_cert.specs.Certificates.{CertView, IsCertificate, cert_text}
-use Rattle.srs_cert.specs.Sayings.{said_text}
+use Rattle.srs_cert.specs.Sayings.{said_text, IsSayable}
 
 abbrev pub side_word : Side → List ℕ
 side_word Ge = codes "g"
@@ -59,11 +59,13 @@ live_text H told c =
 abbrev pub cert_of : List Vertex → Budget → Snapshot → CertView
 cert_of vertices limits snapshot = record { vertices = vertices; limits = limits; events = preorder_of snapshot }
 
--- the text is that of a run over the polygon with the history H, whose certificate has the events of H in preorder
+-- the text is that of a run over the polygon with the history H, whose certificate has the events
+-- of H in preorder. A number is known by its text as long as it has at most 64 bits.
 pub record IsLiveTextOf (vertices : List Vertex) (limits : Budget) (H : History) (told : List (List Said)) (text : List ℕ) : Type 0 where
   pub snapshot : Snapshot
   pub stands : StandsFor (region_of vertices) H snapshot
   pub certificate : IsCertificate (cert_of vertices limits snapshot)
+  pub sayable : All (All IsSayable) told
   pub written : text ≡ live_text H told (cert_of vertices limits snapshot)
 
 -- the statement that a text is that of one run: the lines of the journal give the paths in their

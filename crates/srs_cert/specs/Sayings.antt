@@ -1,5 +1,6 @@
 -- The lines of what is said.
-use Rattle.std.specs.Prelude.{ℕ, ℤ, List, Bool, [], ◌∷◌, ◌++◌, length, pos, codes, if◌then◌else◌, Some, None}
+use Rattle.std.specs.Prelude.{ℕ, ◌<◌, ◌^◌, ℤ, unsigned_abs, List, Bool, [], ◌∷◌, ◌++◌, length, pos, codes, if◌then◌else◌, Some, None}
+use Rattle.std.specs.List.{All}
 use Rattle.std.specs.declared.option.Option.{Option}
 use Rattle.srs_num.specs.Points.{Point as Place}
 use Rattle.srs_map.specs.declared.orbits.OrbitEnd.{OrbitEnd}
@@ -63,3 +64,26 @@ said_text (Point r reply) = answer_text r reply
 said_text (Count n) = count_text (codes "count") n
 said_text (Polygon met) = met_text met
 said_text (Orbit end) = orbit_text end
+
+-- the numbers that an answer's words say
+abbrev pub reply_numbers : Reply → List ℤ
+reply_numbers Inside = []
+reply_numbers (Outside cycle) = pos (length cycle) ∷ cycle
+reply_numbers (Undecided cause) = []
+reply_numbers Beyond = []
+
+-- the numbers that the line of what is said says
+abbrev pub said_numbers : Said → List ℤ
+said_numbers (At round) = pos round ∷ []
+said_numbers (Version v) = pos v ∷ []
+said_numbers (Point r reply) = place_numbers r ++ reply_numbers reply
+said_numbers (Count n) = pos n ∷ []
+said_numbers (Polygon met) = []
+said_numbers (Orbit (Zero k)) = pos k ∷ []
+said_numbers (Orbit (Wide k)) = pos k ∷ []
+said_numbers (Orbit (Loop j l)) = pos j ∷ pos l ∷ []
+said_numbers (Orbit Spent) = []
+
+-- each number that it says has at most 64 bits
+abbrev pub IsSayable : Said → Type 0
+IsSayable said = All (λ z. unsigned_abs z < 2 ^ 64) (said_numbers said)

@@ -1,6 +1,6 @@
 -- The text of a live run is that of one history, of what each session was told, and of one
 -- certificate.
-use Rattle.std.proofs.Common.{◌≡◌, ◌≢◌, ◌≤◌, ◌<◌, ◌+◌, ◌++◌, ℕ, suc, pos, Bool, true, false, cond, List, [], ◌∷◌, map, length, length-append, flat_map, codes, All, Some, rules, refl, sym, ap, ap₂, subst, ◌∙◌, arith, append_assoc, append-nil}
+use Rattle.std.proofs.Common.{◌≡◌, ◌≢◌, ◌≤◌, ◌<◌, ◌+◌, ◌++◌, ℕ, suc, pos, Bool, true, false, cond, List, [], ◌∷◌, map, length, flat_map, codes, All, Some, rules, refl, sym, ap, ap₂, subst, ◌∙◌, arith, append_assoc, append-nil}
 use Rattle.std.specs.Prelude.{Contains}
 use Rattle.std.specs.Cmp.Lexicographic.{slice_cmp}
 use Rattle.std.specs.FinMap as finite
@@ -17,7 +17,7 @@ use Rattle.srs_path.specs.declared.outcomes.Outcome.TheVariants.{Inside, Outside
 use Rattle.srs_path.specs.Views.{Budget, Entry}
 use Rattle.srs_tree.specs.Tree.{History, path_eq, outcome_at}
 use Rattle.srs_tree.specs.Legality.{IsLegal}
-use Rattle.srs_tree.specs.Snapshots.{side_cmp, Snapshot, tree_of, StandsFor}
+use Rattle.srs_tree.specs.Snapshots.{side_cmp, Snapshot, tree_of}
 use Rattle.srs_tree.specs.Preorder.{event_of, preorder_of}
 use Rattle.srs_tree.specs.declared.queries.Said.{Said}
 use Rattle.srs_tree.proofs.StandsLemmas.{ties}
@@ -30,13 +30,13 @@ use Rattle.srs_line.proofs.FieldLaws.{says_once}
 use Rattle.srs_line.proofs.TokenLemmas.{HasNoSpace, tokens_at}
 use Rattle.srs_line.proofs.LineTexts.{says_line, line_no_lf}
 use Rattle.srs_cert.specs.Texts.{ended, count_text}
-use Rattle.srs_cert.specs.Certificates.{CertView, IsCertificate, IsInRange, cert_text}
-use Rattle.srs_cert.specs.Sayings.{said_text}
-use Rattle.srs_cert.specs.Lives.{side_word, path_text, outcome_line, event_text, journal_text, session_text, sessions_text, live_text, cert_of, IsLiveTextOf}
+use Rattle.srs_cert.specs.Certificates.{CertView, IsInRange, cert_text}
+use Rattle.srs_cert.specs.Sayings.{said_text, IsSayable}
+use Rattle.srs_cert.specs.Lives.{side_word, path_text, outcome_line, event_text, session_text, sessions_text, cert_of, IsLiveTextOf, LiveTextIsOne}
 use Rattle.srs_file.specs.Grammar.{SpellsCertificate}
 use Rattle.srs_file.proofs.LineShapes.{in_plain, out_plain, cut_plain, high_plain, count_fits, form_fits, cycle_fits, left_no_lf, end_no_lf, clear_no_lf}
 use Rattle.srs_file.proofs.Spelled.{joined_append}
-use Rattle.srs_file.proofs.SaidLaws.{IsSayable, tail_once, heads_differ, numbers_no_lf, said_line, said_is_line, said_no_lf, said_once, no_session_line, no_end_line}
+use Rattle.srs_file.proofs.SaidLaws.{tail_once, heads_differ, numbers_no_lf, said_line, said_is_line, said_no_lf, said_once, no_session_line, no_end_line}
 
 -- the line of an event
 abbrev event_line : Entry → List ℕ
@@ -354,14 +354,8 @@ same_size : (G H : History) → length G ≡ length H
     → length (map event_line G) ≡ length (map event_line H)
 same_size G H e = omega (arith, length-map G event_line, length-map H event_line, e)
 
-pub live_text_is_one :
-    ((text : List ℕ) (b c : CertView) → SpellsCertificate text b → SpellsCertificate text c → b ≡ c)
-    → (vs ws : List Vertex) (a b : Budget) (G H : History) (S T : List (List Said)) (text : List ℕ)
-    → All (All IsSayable) S → All (All IsSayable) T
-    → IsLegal (region_of vs) a.wits G → IsLegal (region_of ws) b.wits H → IsLiveTextOf vs a G S text
-    → IsLiveTextOf ws b H T text
-    → (vs ≡ ws) × (a ≡ b) × (G ≡ H) × (S ≡ T)
-live_text_is_one one vs ws a b G H S T text p q lg lh t u =
+pub live_text_is_one : ((text : List ℕ) (b c : CertView) → SpellsCertificate text b → SpellsCertificate text c → b ≡ c) → LiveTextIsOne
+live_text_is_one one vs ws a b G H S T text lg lh t u =
     let both = sym (text_is vs a G S text lg t) ∙ text_is ws b H T text lh u in
     let heads = lines_once (head_lines (length G)) (head_lines (length H)) _ _
     (heads_plain vs a G S text lg t) (heads_plain ws b H T text lh u) refl both in
@@ -382,5 +376,5 @@ live_text_is_one one vs ws a b G H S T text p q lg lh t u =
       history_once Tree G H (has vs a G S text lg t)
           (subst (λ (c : CertView). Has (outcome_at c.events) H) (sym certs)
           (has ws b H T text lh u)) events.0,
-      sessions_once 1 S T p q rest.0,
+      sessions_once 1 S T t.sayable u.sayable rest.0,
     )

@@ -1,5 +1,5 @@
 -- What is read as an input of `live` is its text, and its text is read.
-use Rattle.std.proofs.Common.{◌≡◌, ◌≤◌, ◌++◌, ◌⊎◌, true, false, ℕ, List, [], ◌∷◌, length, Some, codes, refl, sym, ap, ◌∙◌, inl, inr, arith, append_assoc, append-nil}
+use Rattle.std.proofs.Common.{◌≡◌, ◌++◌, ◌⊎◌, true, false, ℕ, List, [], ◌∷◌, length, codes, refl, sym, ap, ◌∙◌, inl, inr, arith, append_assoc, append-nil}
 use Rattle.srs_plane.specs.declared.polygons.Vertex.{Vertex}
 use Rattle.srs_plane.specs.Polygons.{IsPolygon}
 use Rattle.srs_tree.specs.declared.sessions.Segment.{Segment}

@@ -1,8 +1,8 @@
 -- A line of what is said says one thing, and has no LF.
-use Rattle.std.proofs.Common.{◌≡◌, ◌≢◌, ◌≤◌, ◌<◌, ◌+◌, ◌-◌, ◌%◌, ◌/◌, ◌*◌, ◌^◌, ◌==◌, ◌++◌, ℕ, zero, suc, ℤ, pos, negsuc, unsigned_abs, Bool, true, false, cond, eqb, ltb, if◌then◌else◌, List, [], ◌∷◌, drop, get_or, length, flat_map, codes, All, Option, Some, None, rules, refl, sym, ap, subst, ◌∙◌, arith, append_assoc, append-nil, decimal}
+use Rattle.std.proofs.Common.{◌≡◌, ◌≢◌, ◌≤◌, ◌<◌, ◌+◌, ◌%◌, ◌/◌, ◌*◌, ◌^◌, ◌==◌, ◌++◌, ℕ, zero, suc, ℤ, pos, negsuc, unsigned_abs, Bool, true, false, cond, eqb, ltb, if◌then◌else◌, List, [], ◌∷◌, drop, get_or, length, codes, All, Option, Some, None, rules, refl, sym, ap, subst, ◌∙◌, arith, append_assoc, append-nil, decimal}
 use Rattle.std.specs.Fmt.{digit_glyph, digits_onto, digits, signed_decimal}
 use Rattle.std.proofs.lemmas.Fmt.{decimal_injective}
-use Rattle.std.proofs.lemmas.List.{append_cancel_left, append_cancel_right}
+use Rattle.std.proofs.lemmas.List.{append_cancel_left}
 use Rattle.std.proofs.lemmas.List.Elements.{All-nil, All-cons, All-head, All-tail, All-append}
 use Rattle.srs_num.specs.Points.{Point as Place}
 use Rattle.srs_map.specs.declared.orbits.OrbitEnd.{OrbitEnd}
@@ -21,31 +21,8 @@ use Rattle.srs_line.specs.Fields.{line_of}
 use Rattle.srs_line.proofs.TokenLemmas.{HasNoSpace}
 use Rattle.srs_line.proofs.LineTexts.{rest_of}
 use Rattle.srs_cert.specs.Texts.{ended, cause_text}
-use Rattle.srs_cert.specs.Sayings.{open_text, reply_text, place_numbers, place_text, word_if, said_text}
+use Rattle.srs_cert.specs.Sayings.{open_text, reply_text, place_numbers, place_text, word_if, said_text, reply_numbers, said_numbers, IsSayable}
 use Rattle.srs_file.proofs.LineShapes.{IsPlainWord, clear_no_lf}
-
--- the numbers that an answer's words say
-abbrev pub reply_numbers : Reply → List ℤ
-reply_numbers Inside = []
-reply_numbers (Outside cycle) = pos (length cycle) ∷ cycle
-reply_numbers (Undecided cause) = []
-reply_numbers Beyond = []
-
--- the numbers that the line of what is said says
-abbrev pub said_numbers : Said → List ℤ
-said_numbers (At round) = pos round ∷ []
-said_numbers (Version v) = pos v ∷ []
-said_numbers (Point r reply) = place_numbers r ++ reply_numbers reply
-said_numbers (Count n) = pos n ∷ []
-said_numbers (Polygon met) = []
-said_numbers (Orbit (Zero k)) = pos k ∷ []
-said_numbers (Orbit (Wide k)) = pos k ∷ []
-said_numbers (Orbit (Loop j l)) = pos j ∷ pos l ∷ []
-said_numbers (Orbit Spent) = []
-
--- each number that it says has at most 64 bits
-abbrev pub IsSayable : Said → Type 0
-IsSayable said = All (λ z. unsigned_abs z < 2 ^ 64) (said_numbers said)
 
 -- of a number with more than 64 digits, the text is that of the last 64: it is known by its text
 -- only below 10 ^ 64

@@ -1,12 +1,10 @@
 -- What a line of a session does is determined, and so is what is wrong with it.
-use Rattle.std.proofs.Common.{◌≡◌, ◌≢◌, ◌⊎◌, ℕ, List, [], codes, refl, sym, ap, ◌∙◌, inl, inr, arith}
+use Rattle.std.proofs.Common.{◌≡◌, ◌⊎◌, ℕ, List, [], codes, refl, sym, ◌∙◌, inl, inr, arith}
 use Rattle.srs_line.specs.declared.slip.Slip.{Slip}
 use Rattle.srs_line.specs.declared.slip.Slip.TheVariants.{Range}
 use Rattle.srs_line.specs.Fields.{HasWord}
 use Rattle.srs_line.proofs.FieldLaws.{count_once, no_count_slip, count_slip_once}
-use Rattle.srs_file.specs.declared.questions.Questions.{Questions}
 use Rattle.srs_file.specs.declared.session_lines.Stage.{Stage}
-use Rattle.srs_file.specs.QuestionReading.{TakesInSession}
 use Rattle.srs_file.specs.SessionReading.{SessionsView, IsFree, IsRoundSlip, SaysRound, StepsAt, StepsBehind, SlipsBehind, TakesSession, SlipsSession}
 use Rattle.srs_file.proofs.QuestionLaws.{two_words, question_slips, in_session_once, in_session_apart, other_in_session}
 

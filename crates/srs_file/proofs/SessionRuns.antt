@@ -1,11 +1,10 @@
 -- The text of sessions is read as the sessions.
 use Rattle.std.proofs.Common.{◌≡◌, ◌<◌, ◌≤◌, ◌+◌, ◌++◌, All, ℕ, suc, pos, List, [], ◌∷◌, length, codes, refl, sym, ap, ◌∙◌, inl, inr, arith, append_assoc, append-nil, length-append, rules}
-use Rattle.std.proofs.lemmas.List.Elements.{All-head, All-tail}
-use Rattle.srs_tree.specs.declared.queries.Query.{Query}
+use Rattle.std.proofs.lemmas.List.Elements.{All-head}
 use Rattle.srs_tree.specs.declared.sessions.Segment.{Segment}
 use Rattle.srs_tree.specs.Sessions.{AreAscending}
 use Rattle.srs_text.specs.Line.{HasNoLf}
-use Rattle.srs_line.specs.Fields.{Says, line_of}
+use Rattle.srs_line.specs.Fields.{line_of}
 use Rattle.srs_line.proofs.FieldLaws.{says_word}
 use Rattle.srs_line.proofs.LineTexts.{says_line, line_no_lf}
 use Rattle.srs_cert.specs.Texts.{ended, count_text}

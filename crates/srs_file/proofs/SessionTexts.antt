@@ -1,10 +1,8 @@
 -- What is read as sessions is their text.
-use Rattle.std.proofs.Common.{◌≡◌, ◌<◌, ◌≤◌, ◌+◌, ◌++◌, All, ℕ, pos, List, [], ◌∷◌, length, codes, refl, sym, ap, ◌∙◌, inl, inr, arith, append_assoc, append-nil, length-append}
+use Rattle.std.proofs.Common.{◌≡◌, ◌<◌, ◌≤◌, ◌++◌, All, ℕ, pos, List, [], ◌∷◌, length, codes, refl, sym, ap, ◌∙◌, inl, inr, arith, append_assoc, append-nil, length-append}
 use Rattle.std.proofs.lemmas.List.Elements.{All-nil, All-push}
-use Rattle.srs_tree.specs.declared.queries.Query.{Query}
 use Rattle.srs_tree.specs.declared.sessions.Segment.{Segment}
 use Rattle.srs_tree.specs.Sessions.{AreAscending}
-use Rattle.srs_line.specs.Fields.{line_of}
 use Rattle.srs_line.proofs.LineTexts.{said_is}
 use Rattle.srs_cert.specs.Texts.{ended, count_text}
 use Rattle.srs_file.specs.declared.questions.Questions.{Questions}
@@ -13,7 +11,7 @@ use Rattle.srs_file.specs.declared.session_lines.Stage.TheVariants.{Nothing, Ses
 use Rattle.srs_file.specs.Questions.{IsSessionQuestion}
 use Rattle.srs_file.specs.Scripts.{SpellsAll, SpellsSegment, SpellsSession}
 use Rattle.srs_file.specs.QuestionReading.{TakesInSession}
-use Rattle.srs_file.specs.SessionReading.{SessionsView, no_sessions, IsBegun, HasRound, IsLater, IsOpenFit, with_open, segments_of, with_session, script_of, IsFree, closed, TakesSession}
+use Rattle.srs_file.specs.SessionReading.{SessionsView, no_sessions, IsBegun, HasRound, IsLater, IsOpenFit, with_open, with_session, script_of, IsFree, TakesSession}
 use Rattle.srs_file.proofs.Spelled.{spells_push, pairs_push}
 use Rattle.srs_file.proofs.QuestionTexts.{IsAsked, none_asked, all_asked, session_asked}
 

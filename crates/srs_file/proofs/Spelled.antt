@@ -1,5 +1,5 @@
 -- A text of items that grows by one, and lines that spell a text.
-use Rattle.std.proofs.Common.{◌≡◌, ◌++◌, ◌<◌, ℕ, suc, zero, List, [], ◌∷◌, All, refl, sym, ap, ◌∙◌, arith, append_assoc, append-nil, length}
+use Rattle.std.proofs.Common.{◌≡◌, ◌++◌, ℕ, suc, List, [], ◌∷◌, All, refl, sym, ◌∙◌, arith, append_assoc, append-nil}
 use Rattle.std.specs.List.{AllPairs}
 use Rattle.std.proofs.lemmas.List.Concat.{flat_map-append}
 use Rattle.std.proofs.lemmas.List.Elements.{All-push, All-head, All-tail}

@@ -10,7 +10,7 @@ use std::alloc::Global;
 use std::test::Fail;
 
 // How many vertices and sessions the input has, and its cell; or its first slip.
-fn live_of(alloc: Global, text: &str) -> Result<Result<(u64, u64, Cell), FileErr>, Fail> {
+pub fn live_of(alloc: Global, text: &str) -> Result<Result<(u64, u64, Cell), FileErr>, Fail> {
     if text.len() > 65536 {
         Err("it is short")?;
     }
@@ -21,7 +21,7 @@ fn live_of(alloc: Global, text: &str) -> Result<Result<(u64, u64, Cell), FileErr
 }
 
 // The first slip of the input.
-pub fn slip_of(alloc: Global, lines: &[&[&str]]) -> Result<Option<FileErr>, Fail> {
+fn slip_of(alloc: Global, lines: &[&[&str]]) -> Result<Option<FileErr>, Fail> {
     match live_of(alloc, &text_of(alloc, lines)?)? {
         Ok(_) => Ok(None),
         Err(refused) => Ok(Some(refused)),

@@ -1,9 +1,9 @@
 // The sessions of an input of a live run.
-use crate::lines::{POLYGON, QUESTIONS, text_of};
-use crate::live::slip_of;
+use crate::lines::{POLYGON, text_of};
+use crate::live::live_of;
 use srs_file::{FileErr, Slip, read_live};
 use srs_tree::{Query, Script, Segment, Session};
-use std::alloc::Global;
+use std::alloc::{AllocError, Global};
 use std::test::Fail;
 
 // Lines behind the polygon, of which the first is line 5, and the first slip there.
@@ -38,10 +38,21 @@ const SLIPS: [(&[&str], u32, Slip); 16] = [
     ),
 ];
 
-// The first slip of the polygon with the lines and `end` behind it.
-fn slip_behind(alloc: Global, lines: &[&str]) -> Result<Option<FileErr>, Fail> {
+// The input of the polygon with the lines and `end` behind it.
+fn input_of(alloc: Global, lines: &[&str]) -> Result<String, AllocError> {
     let [first, a, b, c, end] = POLYGON;
-    slip_of(alloc, &[&[first, a, b, c], lines, &[end]])
+    let mut text = text_of(alloc, &[&[first, a, b, c]])?;
+    text.push_str(&text_of(alloc, &[lines])?)?;
+    text.push_str(&text_of(alloc, &[&[end]])?)?;
+    Ok(text)
+}
+
+// The first slip of that input.
+fn slip_behind(alloc: Global, lines: &[&str]) -> Result<Option<FileErr>, Fail> {
+    match live_of(alloc, &input_of(alloc, lines)?)? {
+        Ok(_) => Ok(None),
+        Err(refused) => Ok(Some(refused)),
+    }
 }
 
 #[test]
@@ -64,18 +75,25 @@ fn eight_sessions(rt: HostRuntime) -> Result<(), Fail> {
     Ok(())
 }
 
-// The sessions of the polygon's input with the lines behind it.
+// A session whose second segment asks all, and one without a segment.
+const SESSIONS: [&str; 12] = [
+    "session",
+    "at 0",
+    "at 9",
+    "fresh",
+    "count",
+    "point 1 -1 16",
+    "region 3",
+    "ge -1 0 8",
+    "gt 0 -1 8",
+    "ge 1 0 8",
+    "orbit 1 -1 4 1 1 100",
+    "session",
+];
+
+// The sessions of that input.
 fn script_of(alloc: Global, lines: &[&str]) -> Result<Script, Fail> {
-    let [first, a, b, c, end] = POLYGON;
-    let text = text_of(
-        alloc,
-        &[
-            &[first, a, b, c, "session"],
-            lines,
-            &QUESTIONS,
-            &["session", end],
-        ],
-    )?;
+    let text = input_of(alloc, lines)?;
     if text.len() > 65536 {
         Err("it is short")?;
     }
@@ -115,7 +133,7 @@ fn are_asked(sessions: &[Session]) -> bool {
 
 #[test]
 fn questions_of_sessions(rt: HostRuntime) -> Result<(), Fail> {
-    let script = script_of(rt.alloc(), &["at 0", "at 9", "fresh", "count"])?;
+    let script = script_of(rt.alloc(), &SESSIONS)?;
     assert!(rt; are_asked(script.as_slice()));
     Ok(())
 }

@@ -2,4 +2,4 @@ use Rattle.srs_file.proofs.LiveLaws.{live_text_is_one}
 use Rattle.srs_file.proofs.live_reader.one_live_text.Goals as goal
 
 pub returns : goal.returns
-returns c vs ws a b G H S T text lg lh t u = live_text_is_one c.one_certificate.ensures.one_value vs ws a b G H S T text ? ? lg lh t u
+returns c = live_text_is_one c.one_certificate.ensures.one_value

@@ -1,4 +1,4 @@
-use Rattle.std.proofs.Common.{◌≡◌, ◌<◌, ℕ, codes, inl, inr, rules, arith}
+use Rattle.std.proofs.Common.{◌≡◌, codes, inl, inr, rules}
 use Rattle.std.proofs.lemmas.Result.{IfErr-weaker}
 use Rattle.srs_line.specs.Fields.{HasWord}
 use Rattle.srs_line.specs.Refusal.{IsSlip}

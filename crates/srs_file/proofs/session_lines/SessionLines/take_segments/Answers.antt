@@ -1,6 +1,5 @@
-use Rattle.std.proofs.Common.{◌≡◌, ◌<◌, All, length, List}
+use Rattle.std.proofs.Common.{◌<◌, All, List}
 use Rattle.srs_tree.specs.declared.sessions.Segment.{Segment}
-use Rattle.srs_tree.specs.Sessions.{AreAscending}
 use Rattle.srs_file.proofs.Spelled.{pairs_push}
 use Rattle.srs_file.proofs.session_lines.SessionLines.take_segments.Goals as goal
 
