@@ -72,6 +72,13 @@ reply_numbers (Outside cycle) = pos (length cycle) ∷ cycle
 reply_numbers (Undecided cause) = []
 reply_numbers Beyond = []
 
+-- the numbers that say how an orbit ended
+abbrev pub end_numbers : OrbitEnd → List ℤ
+end_numbers (Zero k) = pos k ∷ []
+end_numbers (Wide k) = pos k ∷ []
+end_numbers (Loop j l) = pos j ∷ pos l ∷ []
+end_numbers Spent = []
+
 -- the numbers that the line of what is said says
 abbrev pub said_numbers : Said → List ℤ
 said_numbers (At round) = pos round ∷ []
@@ -79,11 +86,12 @@ said_numbers (Version v) = pos v ∷ []
 said_numbers (Point r reply) = place_numbers r ++ reply_numbers reply
 said_numbers (Count n) = pos n ∷ []
 said_numbers (Polygon met) = []
-said_numbers (Orbit (Zero k)) = pos k ∷ []
-said_numbers (Orbit (Wide k)) = pos k ∷ []
-said_numbers (Orbit (Loop j l)) = pos j ∷ pos l ∷ []
-said_numbers (Orbit Spent) = []
+said_numbers (Orbit end) = end_numbers end
+
+-- numbers of at most 64 bits
+abbrev pub AreShort : List ℤ → Type 0
+AreShort zs = All (λ z. unsigned_abs z < 2 ^ 64) zs
 
 -- each number that it says has at most 64 bits
 abbrev pub IsSayable : Said → Type 0
-IsSayable said = All (λ z. unsigned_abs z < 2 ^ 64) (said_numbers said)
+IsSayable said = AreShort (said_numbers said)

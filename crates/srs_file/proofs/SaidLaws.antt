@@ -21,7 +21,7 @@ use Rattle.srs_line.specs.Fields.{line_of}
 use Rattle.srs_line.proofs.TokenLemmas.{HasNoSpace}
 use Rattle.srs_line.proofs.LineTexts.{rest_of}
 use Rattle.srs_cert.specs.Texts.{ended, cause_text}
-use Rattle.srs_cert.specs.Sayings.{open_text, reply_text, place_numbers, place_text, word_if, said_text, reply_numbers, said_numbers, IsSayable}
+use Rattle.srs_cert.specs.Sayings.{open_text, reply_text, place_numbers, place_text, word_if, said_text, reply_numbers, said_numbers, AreShort, IsSayable}
 use Rattle.srs_file.proofs.LineShapes.{IsPlainWord, clear_no_lf}
 
 -- of a number with more than 64 digits, the text is that of the last 64: it is known by its text
@@ -29,10 +29,6 @@ use Rattle.srs_file.proofs.LineShapes.{IsPlainWord, clear_no_lf}
 alike : decimal (10 ^ 64 + 5) ≡ decimal (2 * 10 ^ 64 + 5)
 unfolding digits
 alike = refl
-
--- numbers of at most 64 bits
-abbrev pub AreShort : List ℤ → Type 0
-AreShort zs = All (λ z. unsigned_abs z < 2 ^ 64) zs
 
 pub tail_once : (x y : ℕ) (xs ys : List ℕ) → x ∷ xs ≡ y ∷ ys → xs ≡ ys
 tail_once x y xs ys e = cc

@@ -1,5 +1,5 @@
 -- The text of a live run.
-use Rattle.std.proofs.Common.{◌≡◌, ℕ, List, take, drop, refl, sym, ap, subst, ◌∙◌, take-append-drop}
+use Rattle.std.proofs.Common.{◌≡◌, ℕ, List, All, take, drop, refl, sym, ap, subst, ◌∙◌, take-append-drop}
 use Rattle.srs_plane.specs.declared.polygons.Vertex.{Vertex}
 use Rattle.srs_plane.specs.Polygons.{region_of}
 use Rattle.srs_plane.specs.Regions.{Area, HasPoint}
@@ -16,6 +16,7 @@ use Rattle.srs_tree.specs.WholeTrees.{ListsWholeTree, IsWithin}
 use Rattle.srs_tree.proofs.Listed.{listed}
 use Rattle.srs_tree.proofs.PartitionAll.{IsPartition-first}
 use Rattle.srs_cert.specs.Certificates.{CertView, IsCertificate, cert_text}
+use Rattle.srs_cert.specs.Sayings.{IsSayable}
 use Rattle.srs_cert.specs.Lives.{cert_of, live_text, IsLiveTextOf, LiveTextIsOne}
 use Rattle.srs_crew.specs.Runs.{IsRun}
 use Rattle.srs_tool.specs.Plans.{HasNoMemory}
@@ -49,8 +50,8 @@ module _ (vs : List Vertex) (b : Budget) (H : History) (v : Snapshot) (point : H
   }
 
 pub live_run_of : LiveTextIsOne → (vs : List Vertex) (b : Budget) (script : List (List Segment)) (run : Run) (cert : CertView) (text : List ℕ) → HasPoint (region_of vs) → IsRun (region_of vs) b script run
-    → cert ≡ cert_of vs b run.version → IsCertificate cert → text ≡ live_text run.journal run.transcripts cert → IsLiveRunOf vs b script text
-live_run_of law vs b script run cert text point is same certificate printed = record {
+    → cert ≡ cert_of vs b run.version → IsCertificate cert → All (All IsSayable) run.transcripts → text ≡ live_text run.journal run.transcripts cert → IsLiveRunOf vs b script text
+live_run_of law vs b script run cert text point is same certificate said printed = record {
   history = run.journal;
   told = run.transcripts;
   decides = decides_in_rounds vs b run.journal run.version point is.whole is.stands is.in_rounds;
@@ -64,4 +65,4 @@ live_run_of law vs b script run cert text point is same certificate printed = re
     written = printed ∙ ap (live_text run.journal run.transcripts) same
 
     live : IsLiveTextOf vs b run.journal run.transcripts text
-    live = record { snapshot = run.version; stands = is.stands; certificate = subst IsCertificate same certificate; written = written }
+    live = record { snapshot = run.version; stands = is.stands; certificate = subst IsCertificate same certificate; sayable = said; written = written }

@@ -17,7 +17,7 @@ use srs_file::{Cert, FileErr, one_live_text, read_live};
 use srs_num::NoMemory;
 use srs_path::Limits;
 use srs_plane::Vertices;
-use srs_print::put_live;
+use srs_print::{put_live, sayable};
 use srs_session::Gate;
 use srs_text::Bytes;
 use srs_tree::{Run, Script};
@@ -93,8 +93,10 @@ fn text_of(
     let _ = limits.wits();
     let events = run.version.preorder(alloc)?;
     let cert = Cert::new(alloc, vertices.as_slice(), *limits, events)?;
-    // What is made as a certificate is one, and the text of a run is that of no other.
+    // What is made as a certificate is one, what is said is known by its text, and the text of a run
+    // is that of no other.
     let _ = cert.events();
+    sayable(&run.transcripts);
     one_live_text();
     let mut text = Bytes::new(alloc);
     match put_live(&mut text, run, &cert) {

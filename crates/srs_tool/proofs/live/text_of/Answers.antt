@@ -20,5 +20,5 @@ pub returns-in-Ok : goal.returns-in-Ok
 returns-in-Ok c script is =
     let same = c.in_ok-cert.ensures ∙ ap₂ (λ (vs : List Vertex) (events : History). let r : CertView = record { vertices = vs; limits = c.args.limits.now; events = events } in r) c.as_slice.ensures c.in_ok-events.ensures in
     live_run_of c.one_live_text.ensures c.args.vertices.now c.args.limits.now script c.args.run.now c.in_ok-cert.cert c.put_live.new.out c.requires.point is
-    same c.events.ensures.certificate
+    same c.events.ensures.certificate c.sayable.ensures
     (c.in-Ok.ensures.ok ∙ ap (λ (old : List ℕ). old ++ live_text c.args.run.now.journal c.args.run.now.transcripts c.in_ok-cert.cert) c.new-text.ensures)
