@@ -6,9 +6,11 @@ use Rattle.srs_path.specs.Soundness.{IsSound}
 use Rattle.srs_tree.specs.Tree.{History, outcome_at, region_at, IsPartition}
 use Rattle.srs_tree.specs.Rounds.{IsPlan}
 
--- H is the plan of the region. Its leaves partition the region, and what each outcome claims holds of its cell: inside,
--- each point is finite; outside, at each point the printed pair recurs; cut, the form divides the cell
+-- H is the plan of the region. Its leaves partition the region, and what each outcome claims holds
+-- of its cell: inside, each point is finite; outside, at each point the printed pair recurs; cut,
+-- the form divides the cell
 pub record Decides (Root : Area) (b : Budget) (H : History) : Type 0 where
   pub plan : IsPlan Root b H
   pub partition : IsPartition Root (outcome_at H)
-  pub sound : (e : Entry) → Contains H e → IsSound (region_at Root (outcome_at H) e.path) b.wits e.outcome
+  pub sound : (e : Entry) → Contains H e
+      → IsSound (region_at Root (outcome_at H) e.path) b.wits e.outcome
