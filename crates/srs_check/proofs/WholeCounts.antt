@@ -112,19 +112,25 @@ abbrev passes : (Outcome → Bool) → Option Outcome → Bool
 passes test None = false
 passes test (Some o) = test o
 
--- a test of the outcomes is one of the paths, in a tree that has the outcome of each event at its path
-by_paths : (test : Outcome → Bool) (T : Tree) (E : History) → ((e : Entry) → Contains E e → T e.path ≡ Some e.outcome)
-    → count_by (λ (e : Entry). test e.outcome) E ≡ count_by (λ (p : List Side). passes test (T p)) (paths E)
+-- a test of the outcomes is one of the paths, in a tree that has the outcome of each event at its
+-- path
+by_paths : (test : Outcome → Bool) (T : Tree) (E : History)
+    → ((e : Entry) → Contains E e → T e.path ≡ Some e.outcome)
+    → count_by (λ (e : Entry). test e.outcome) E ≡ count_by (λ (p : List Side). passes test (T p))
+    (paths E)
 by_paths test T [] shown = refl
 by_paths test T (e ∷ E) shown =
-    let here : test e.outcome ≡ passes test (T e.path) = sym (ap (passes test) (shown e (0, omega arith, refl))) in
+    let here : test e.outcome ≡ passes test (T e.path) =
+    sym (ap (passes test) (shown e (0, omega arith, refl))) in
     let rest = by_paths test T E (λ f (k, l, q). shown f (suc k, omega arith, q)) in
-    sum_by-cons _ e E ∙ ap₂ (λ (b : Bool) (n : ℕ). cond b 1 0 + n) here rest ∙ sym (sum_by-cons _ e.path (paths E))
+    sum_by-cons _ e E ∙ ap₂ (λ (b : Bool) (n : ℕ). cond b 1 0 + n) here rest
+    ∙ sym (sum_by-cons _ e.path (paths E))
 
 -- no path of a legal history comes twice
 module _ (Root : Area) (W : ℕ) (H : History) (legal : IsLegal Root W H) where
   early : (j : ℕ) → IsLegal Root W (take j H)
-  early j = IsLegal-first Root W (take j H) (drop j H) (subst (IsLegal Root W) (sym (take-append-drop j H)) legal)
+  early j = IsLegal-first Root W (take j H) (drop j H)
+      (subst (IsLegal Root W) (sym (take-append-drop j H)) legal)
 
   paths_differ : AllPairs ◌≢◌ (paths H)
   paths_differ i j d low high same =
@@ -132,17 +138,24 @@ module _ (Root : Area) (W : ℕ) (H : History) (legal : IsLegal Root W H) where
       let e : Entry = get_or H i none in
       let f : Entry = get_or H j none in
       let short : j < length H = omega (arith, length-map H path_of) in
-      let first : e.path ≡ get_or (paths H) i d = sym (get_or-map path_of H i none d (omega arith)) in
+      let first : e.path ≡ get_or (paths H) i d =
+      sym (get_or-map path_of H i none d (omega arith)) in
       let second : get_or (paths H) j d ≡ f.path = get_or-map path_of H j none d short in
-      let fresh : outcome_at (take j H) f.path ≡ None = (legal j f (slice_get-get_or H j none short)).fresh in
+      let fresh : outcome_at (take j H) f.path ≡ None =
+      (legal j f (slice_get-get_or H j none short)).fresh in
       let same_place : get_or (take j H) i e ≡ e =
-      get_or-take j H i e low ∙ get_or_from_slice_get H i e e (slice_get-get_or H i none (omega arith)) in
-      let there : Contains (take j H) e = (i, omega (arith, length-take-le j H (omega arith)), same_place) in
-      let shown : outcome_at (take j H) e.path ≡ Some e.outcome = outcome_of_event Root W (take j H) (early j) e there in
-      none-some e.outcome (sym fresh ∙ ap (outcome_at (take j H)) (sym (first ∙ same ∙ second)) ∙ shown)
+      get_or-take j H i e low
+      ∙ get_or_from_slice_get H i e e (slice_get-get_or H i none (omega arith)) in
+      let there : Contains (take j H) e =
+      (i, omega (arith, length-take-le j H (omega arith)), same_place) in
+      let shown : outcome_at (take j H) e.path ≡ Some e.outcome =
+      outcome_of_event Root W (take j H) (early j) e there in
+      none-some e.outcome
+      (sym fresh ∙ ap (outcome_at (take j H)) (sym (first ∙ same ∙ second)) ∙ shown)
 
 -- the events of a whole history in preorder are as many of each kind
-module _ (Root : Area) (L : Budget) (H : History) (v : Snapshot) (whole : IsWhole Root L H) (stands : StandsFor Root H v)
+module _ (Root : Area) (L : Budget) (H : History) (v : Snapshot) (whole : IsWhole Root L H)
+    (stands : StandsFor Root H v)
     (tree : ListsWholeTree (preorder_of v)) where
   shown_here : (e : Entry) → Contains (preorder_of v) e → outcome_at H e.path ≡ Some e.outcome
   shown_here e (k, l, q) =
@@ -150,12 +163,16 @@ module _ (Root : Area) (L : Budget) (H : History) (v : Snapshot) (whole : IsWhol
       ∙ outcome_here (preorder_of v) tree k e (slice_get-get_or (preorder_of v) k e l ∙ ap Some q)
 
   same_count : (test : Outcome → Bool)
-      → count_by (λ (e : Entry). test e.outcome) (preorder_of v) ≡ count_by (λ (e : Entry). test e.outcome) H
+      → count_by (λ (e : Entry). test e.outcome) (preorder_of v) ≡ count_by
+      (λ (e : Entry). test e.outcome) H
   same_count test =
       by_paths test (outcome_at H) (preorder_of v) shown_here
-      ∙ count_same (λ (p : List Side). passes test (outcome_at H p)) (paths (preorder_of v)) (paths H)
-      (λ p t c. let u = path_there (preorder_of v) p c in there_path H p u.0 (sym (preorder_same Root H v stands p) ∙ u.1))
-      (λ p t c. let u = path_there H p c in there_path (preorder_of v) p u.0 (preorder_same Root H v stands p ∙ u.1))
+      ∙ count_same (λ (p : List Side). passes test (outcome_at H p)) (paths (preorder_of v))
+      (paths H)
+      (λ p t c. let u = path_there (preorder_of v) p c in there_path H p u.0
+      (sym (preorder_same Root H v stands p) ∙ u.1))
+      (λ p t c. let u = path_there H p c in there_path (preorder_of v) p u.0
+      (preorder_same Root H v stands p ∙ u.1))
       (once (preorder_of v) tree) (paths_differ Root L.wits H whole.legal)
       ∙ sym (by_paths test (outcome_at H) H (outcome_of_event Root L.wits H whole.legal))
 
@@ -171,4 +188,10 @@ module _ (Root : Area) (L : Budget) (H : History) (v : Snapshot) (whole : IsWhol
       let outside = same_count is_outside in
       let cut = same_count is_cut in
       let left = same_count is_left in
-      λ i. record { cells = cells i; inside = inside i; outside = outside i; cut = cut i; left = left i }
+      λ i. record {
+        cells = cells i;
+        inside = inside i;
+        outside = outside i;
+        cut = cut i;
+        left = left i;
+      }

@@ -22,8 +22,11 @@ drawn_sized x =
       q_range = omega (arith, ints);
     }
 
-pub state_after_more : (x i : ℕ) → state_after x (2 * (i + 1)) ≡ next_state (next_state (state_after x (2 * i)))
+pub state_after_more : (x i : ℕ)
+    → state_after x (2 * (i + 1)) ≡ next_state (next_state (state_after x (2 * i)))
 state_after_more x i = let e : 2 * (i + 1) ≡ suc (suc (2 * i)) = omega arith in ap (state_after x) e
 
-pub points_more : (x i : ℕ) → points_from x (i + 1) ≡ points_from x i ++ point_from (state_after x (2 * i)) ∷ []
-points_more x i = map-range_with_len_more (λ i. point_from (state_after x (2 * i))) 0 i i (omega arith)
+pub points_more : (x i : ℕ) → points_from x (i + 1) ≡ points_from x i
+    ++ point_from (state_after x (2 * i)) ∷ []
+points_more x i =
+    map-range_with_len_more (λ i. point_from (state_after x (2 * i))) 0 i i (omega arith)

@@ -12,8 +12,9 @@ use srs_print::{put_count, put_line, put_ring};
 use srs_text::Bytes;
 use std::alloc::Global;
 
-/// The input of `live` that the seed `s` gives: its triangle, and two sessions that ask at its first `n` points, the first
-/// at round 0 about half of them, the second at round 3 about the others. An `Err` is want of memory.
+/// The input of `live` that the seed `s` gives: its triangle, and two sessions that ask at its
+/// first `n` points, the first at round 0 about half of them, the second at round 3 about the
+/// others. An `Err` is want of memory.
 pub fn make(alloc: Global, s: u32, n: u32) -> Result<Bytes, NoMemory>
     requires seed { s < 2 ^ 31 }
     requires few { n ≤ 10000 }

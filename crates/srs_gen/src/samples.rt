@@ -12,7 +12,8 @@ use std::alloc::Global;
 /// Points, seen as the list of them.
 pub type Points = Items<Pt>;
 
-/// A triangle of which the edges are drawn closed or open, and points that are drawn in the square around it.
+/// A triangle of which the edges are drawn closed or open, and points that are drawn in the square
+/// around it.
 #[derive(Drop)]
 pub struct Sample {
     pub vertices: [Vertex; 3],

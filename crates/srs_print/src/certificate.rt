@@ -49,8 +49,8 @@ pub(crate) fn put_head(
     put_limits(out, limits)
 }
 
-/// Appends the lines of the polygon with these vertices. An `Err` is want of memory, and leaves a front of them behind what
-/// was there.
+/// Appends the lines of the polygon with these vertices. An `Err` is want of memory, and leaves a
+/// front of them behind what was there.
 pub fn put_ring(out: &mut Bytes, vertices: &[Vertex]) -> Result<(), NoMemory>
     ensures ok { OnOk result (out.new ≡ out.old ++ ring_text vertices.now) }
     ensures err { OnErr result (StopsIn out.old (ring_text vertices.now) out.new) }

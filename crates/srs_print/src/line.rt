@@ -8,8 +8,8 @@ ghost use Rattle.srs_print.specs.Fronts.{StopsIn};
 
 use srs_text::{Bytes, NoMemory, put_number};
 
-/// Appends the line of the word and the numbers. An `Err` is want of memory, and leaves a front of the line behind what was
-/// there.
+/// Appends the line of the word and the numbers. An `Err` is want of memory, and leaves a front of
+/// the line behind what was there.
 pub fn put_line(out: &mut Bytes, word: &[u8], numbers: &[i64]) -> Result<(), NoMemory>
     ensures ok { OnOk result (out.new ≡ out.old ++ ended (line_of word.now numbers.now)) }
     ensures err { OnErr result (StopsIn out.old (ended (line_of word.now numbers.now)) out.new) }
@@ -18,8 +18,8 @@ pub fn put_line(out: &mut Bytes, word: &[u8], numbers: &[i64]) -> Result<(), NoM
     out.extend(b"\n")
 }
 
-/// Appends the line of the word and the one number. An `Err` is want of memory, and leaves a front of the line behind what
-/// was there.
+/// Appends the line of the word and the one number. An `Err` is want of memory, and leaves a front
+/// of the line behind what was there.
 pub fn put_count(out: &mut Bytes, word: &[u8], n: u64) -> Result<(), NoMemory>
     ensures ok { OnOk result (out.new ≡ out.old ++ count_text word.now n) }
     ensures err { OnErr result (StopsIn out.old (count_text word.now n) out.new) }

@@ -29,31 +29,41 @@ use Rattle.srs_tool.specs.Plans.{HasNoMemory}
 use Rattle.srs_tool.proofs.Certifying.{refined_listed, whole_decides}
 
 module _ (Root : Area) (T : Tree) where
-  answers_length : (points : List Point) (replies : List Reply) → AreAnswers Root T points replies → length replies ≡ length points
+  answers_length : (points : List Point) (replies : List Reply) → AreAnswers Root T points replies
+      → length replies ≡ length points
   answers_length [] [] are = refl
   answers_length [] (reply ∷ replies) are = absurd are
   answers_length (r ∷ points) [] are = absurd are
-  answers_length (r ∷ points) (reply ∷ replies) are = let rest = answers_length points replies are.1 in omega (arith, rest)
+  answers_length (r ∷ points) (reply ∷ replies) are = let rest =
+      answers_length points replies are.1 in omega (arith, rest)
 
-  answers_push : (points : List Point) (replies : List Reply) (r : Point) (reply : Reply) → AreAnswers Root T points replies → Answers Root T r reply
+  answers_push : (points : List Point) (replies : List Reply) (r : Point) (reply : Reply)
+      → AreAnswers Root T points replies → Answers Root T r reply
       → AreAnswers Root T (points ++ r ∷ []) (replies ++ reply ∷ [])
   answers_push [] [] r reply are one = (one, tt)
   answers_push [] (s ∷ replies) r reply are one = absurd are
   answers_push (p ∷ points) [] r reply are one = absurd are
-  answers_push (p ∷ points) (s ∷ replies) r reply are one = (are.0, answers_push points replies r reply are.1 one)
+  answers_push (p ∷ points) (s ∷ replies) r reply are one =
+      (are.0, answers_push points replies r reply are.1 one)
 
-  pub no_answers : (counts : AnswerCounts) → counts ≡ answer_counts [] → CountsAnswers Root T [] counts
+  pub no_answers : (counts : AnswerCounts) → counts ≡ answer_counts []
+      → CountsAnswers Root T [] counts
   no_answers counts is = record { replies = []; are = tt; counted = is }
 
   -- none of the counts is above the number of points
-  pub answers_few : (points : List Point) (counts : AnswerCounts) → CountsAnswers Root T points counts
+  pub answers_few : (points : List Point) (counts : AnswerCounts)
+      → CountsAnswers Root T points counts
       → counts.inside + counts.outside + counts.undecided + counts.beyond ≤ 4 * length points
   answers_few points counts c =
       let size = answers_length points c.replies c.are in
-      let inside : counts.inside ≡ count_by (λ (a : Reply). (kind_of a).inside) c.replies = ap (λ (n : AnswerCounts). n.inside) c.counted in
-      let outside : counts.outside ≡ count_by (λ (a : Reply). (kind_of a).outside) c.replies = ap (λ (n : AnswerCounts). n.outside) c.counted in
-      let undecided : counts.undecided ≡ count_by (λ (a : Reply). (kind_of a).undecided) c.replies = ap (λ (n : AnswerCounts). n.undecided) c.counted in
-      let beyond : counts.beyond ≡ count_by (λ (a : Reply). (kind_of a).beyond) c.replies = ap (λ (n : AnswerCounts). n.beyond) c.counted in
+      let inside : counts.inside ≡ count_by (λ (a : Reply). (kind_of a).inside) c.replies =
+      ap (λ (n : AnswerCounts). n.inside) c.counted in
+      let outside : counts.outside ≡ count_by (λ (a : Reply). (kind_of a).outside) c.replies =
+      ap (λ (n : AnswerCounts). n.outside) c.counted in
+      let undecided : counts.undecided ≡ count_by (λ (a : Reply). (kind_of a).undecided) c.replies =
+      ap (λ (n : AnswerCounts). n.undecided) c.counted in
+      let beyond : counts.beyond ≡ count_by (λ (a : Reply). (kind_of a).beyond) c.replies =
+      ap (λ (n : AnswerCounts). n.beyond) c.counted in
       omega (
         arith,
         count_by-le-length (λ (a : Reply). (kind_of a).inside) c.replies,
@@ -63,24 +73,36 @@ module _ (Root : Area) (T : Tree) where
       )
 
   -- one answer more
-  pub answer_more : (points : List Point) (r : Point) (reply : Reply) (old new : AnswerCounts) → CountsAnswers Root T points old → Answers Root T r reply
-      → new.inside ≡ old.inside + cond (kind_of reply).inside 1 0 → new.outside ≡ old.outside + cond (kind_of reply).outside 1 0
-      → new.undecided ≡ old.undecided + cond (kind_of reply).undecided 1 0 → new.beyond ≡ old.beyond + cond (kind_of reply).beyond 1 0
+  pub answer_more : (points : List Point) (r : Point) (reply : Reply) (old new : AnswerCounts)
+      → CountsAnswers Root T points old → Answers Root T r reply
+      → new.inside ≡ old.inside + cond (kind_of reply).inside 1 0
+      → new.outside ≡ old.outside + cond (kind_of reply).outside 1 0
+      → new.undecided ≡ old.undecided + cond (kind_of reply).undecided 1 0
+      → new.beyond ≡ old.beyond + cond (kind_of reply).beyond 1 0
       → CountsAnswers Root T (points ++ r ∷ []) new
   answer_more points r reply old new c one inside outside undecided beyond = record {
     replies = c.replies ++ reply ∷ [];
     are = answers_push points c.replies r reply c.are one;
     counted = λ i. record {
-      inside = pushed (λ (a : Reply). (kind_of a).inside) old.inside new.inside (ap (λ (n : AnswerCounts). n.inside) c.counted) inside i;
-      outside = pushed (λ (a : Reply). (kind_of a).outside) old.outside new.outside (ap (λ (n : AnswerCounts). n.outside) c.counted) outside i;
-      undecided = pushed (λ (a : Reply). (kind_of a).undecided) old.undecided new.undecided (ap (λ (n : AnswerCounts). n.undecided) c.counted) undecided i;
-      beyond = pushed (λ (a : Reply). (kind_of a).beyond) old.beyond new.beyond (ap (λ (n : AnswerCounts). n.beyond) c.counted) beyond i;
+      inside = pushed (λ (a : Reply). (kind_of a).inside) old.inside new.inside
+          (ap (λ (n : AnswerCounts). n.inside) c.counted) inside i;
+      outside = pushed (λ (a : Reply). (kind_of a).outside) old.outside new.outside
+          (ap (λ (n : AnswerCounts). n.outside) c.counted) outside i;
+      undecided =
+          pushed (λ (a : Reply). (kind_of a).undecided) old.undecided new.undecided
+          (ap (λ (n : AnswerCounts). n.undecided) c.counted) undecided i;
+      beyond = pushed (λ (a : Reply). (kind_of a).beyond) old.beyond new.beyond
+          (ap (λ (n : AnswerCounts). n.beyond) c.counted) beyond i;
     };
   }
     where
-      pushed : (kind : Reply → Bool) (x y : ℕ) → x ≡ count_by kind c.replies → y ≡ x + cond (kind reply) 1 0 → y ≡ count_by kind (c.replies ++ reply ∷ [])
-      pushed kind x y is more = more ∙ ap (λ (n : ℕ). n + cond (kind reply) 1 0) is ∙ sym (sum_by_push (λ (a : Reply). cond (kind a) 1 0) c.replies reply)
+      pushed : (kind : Reply → Bool) (x y : ℕ) → x ≡ count_by kind c.replies
+          → y ≡ x + cond (kind reply) 1 0 → y ≡ count_by kind (c.replies ++ reply ∷ [])
+      pushed kind x y is more =
+          more ∙ ap (λ (n : ℕ). n + cond (kind reply) 1 0) is
+          ∙ sym (sum_by_push (λ (a : Reply). cond (kind a) 1 0) c.replies reply)
 
+<<<<<<< HEAD
 one_outcome : (x y : Outcome) → Some x ≡ Some y → x ≡ y
 one_outcome x y e = cc
 
@@ -100,25 +122,40 @@ planned_by R W H v legal stands none e c =
 pub counted_plan_of : (R : Area) (v : Snapshot) (nodes : Counts) → IsBudget bench_limits → HasPoint R → IsRefined R bench_limits v
     → HasNoMemory (preorder_of v) → nodes ≡ counts_of (preorder_of v) → IsCountedPlan R v nodes
 counted_plan_of R v nodes budget point refined none counted = record {
+=======
+pub counted_plan_of : (R : Area) (v : Snapshot) (nodes : Counts) → IsBudget bench_limits
+    → HasPoint R → IsRefined R bench_limits v
+    → nodes ≡ counts_of (preorder_of v) → IsCountedPlan R v nodes
+counted_plan_of R v nodes budget point refined counted = record {
+>>>>>>> 0b58a4e5859e6ddde9cd9b15d8a8237d79393433
   history = refined.history;
   decides = whole_decides R bench_limits refined.history point refined.whole;
   planned = planned_by R bench_limits.wits refined.history v refined.whole.legal refined.stands none;
   stands = refined.stands;
   counted = counted
+<<<<<<< HEAD
       ∙ counts_same R bench_limits refined.history v refined.whole refined.stands (refined_listed bench_limits R v budget refined).0;
+=======
+      ∙ counts_same R bench_limits refined.history v refined.plan.whole refined.stands
+      (refined_listed bench_limits R v budget refined).0;
+>>>>>>> 0b58a4e5859e6ddde9cd9b15d8a8237d79393433
 }
 
-pub bench_text_of : (s n : ℕ) (vs : List Vertex) (points : List Point) (v : Snapshot) (nodes : Counts) (answers : AnswerCounts) (text : List ℕ)
-    → vs ≡ made_vertices s → points ≡ made_points s n → IsCountedPlan (region_of vs) v nodes → CountsAnswers v.region (tree_of v) points answers
+pub bench_text_of : (s n : ℕ) (vs : List Vertex) (points : List Point) (v : Snapshot)
+    (nodes : Counts) (answers : AnswerCounts) (text : List ℕ)
+    → vs ≡ made_vertices s → points ≡ made_points s n → IsCountedPlan (region_of vs) v nodes
+    → CountsAnswers v.region (tree_of v) points answers
     → text ≡ bench_text s n nodes answers → IsBenchText s n text
 bench_text_of s n vs points v nodes answers text vertices_are points_are plan counts written =
     let R = region_of (made_vertices s) in
-    let p : IsCountedPlan R v nodes = subst (λ (ws : List Vertex). IsCountedPlan (region_of ws) v nodes) vertices_are plan in
+    let p : IsCountedPlan R v nodes =
+    subst (λ (ws : List Vertex). IsCountedPlan (region_of ws) v nodes) vertices_are plan in
     let tree : tree_of v ≡ outcome_at p.history = λ i. λ path. p.stands.entries path i in
     let on_points : CountsAnswers v.region (tree_of v) (made_points s n) answers =
     subst (λ (ps : List Point). CountsAnswers v.region (tree_of v) ps answers) points_are counts in
     let on_region : CountsAnswers R (tree_of v) (made_points s n) answers =
-    subst (λ (Q : Area). CountsAnswers Q (tree_of v) (made_points s n) answers) p.stands.region on_points in
+    subst (λ (Q : Area). CountsAnswers Q (tree_of v)
+    (made_points s n) answers) p.stands.region on_points in
     record {
       history = p.history;
       decides = p.decides;

@@ -35,33 +35,49 @@ has_checked Sessions text c has = absurd has
 has_checked Certificate text c has = tt
 has_checked Questions text c has = tt
 
-end_good : (input : Input) (left left_after : Option (List ℕ)) (text : List ℕ) → HoldsInput input left → ReadsToEnd input left left_after text
+end_good : (input : Input) (left left_after : Option (List ℕ)) (text : List ℕ)
+    → HoldsInput input left → ReadsToEnd input left left_after text
     → IsInput input text
 end_good input left left_after text holds read =
-    subst (IsInput input) (sym (same_input left left_after holds.text text holds.held read.taken read.end)) holds.good
+    subst (IsInput input)
+    (sym (same_input left left_after holds.text text holds.held read.taken read.end)) holds.good
 
 -- where the source serves, what is read is such an input
-read_good : (input : Input) (left left_after : Option (List ℕ)) (text : List ℕ) → Serves input left → Reads input left left_after text
+read_good : (input : Input) (left left_after : Option (List ℕ)) (text : List ℕ) → Serves input left
+    → Reads input left left_after text
     → IsInput input text
 read_good Nothing left left_after text served read = read.0
-read_good Polygon left left_after text served read = end_good Polygon left left_after text served read
-read_good Sessions left left_after text served read = end_good Sessions left left_after text served read
-read_good Certificate left left_after text served read = end_good Certificate left left_after text served read
-read_good Questions left left_after text served read = end_good Questions left left_after text served read
+read_good Polygon left left_after text served read =
+    end_good Polygon left left_after text served read
+read_good Sessions left left_after text served read =
+    end_good Sessions left left_after text served read
+read_good Certificate left left_after text served read =
+    end_good Certificate left left_after text served read
+read_good Questions left left_after text served read =
+    end_good Questions left left_after text served read
 
-too_much : (input : Input) (left left_after : Option (List ℕ)) → HoldsInput input left → TookJust left left_after (longest input + 1) → ⊥
+too_much : (input : Input) (left left_after : Option (List ℕ)) → HoldsInput input left
+    → TookJust left left_after (longest input + 1) → ⊥
 too_much input left left_after holds over =
-    absurd (omega (arith, took_within left left_after holds.text over.0 holds.held over.1, over.2, holds.short))
+    absurd (omega (
+      arith,
+      took_within left left_after holds.text over.0 holds.held over.1,
+      over.2,
+      holds.short,
+    ))
 
 -- where the source serves, it has no more than such an input may have
-overrun_fails : (input : Input) (left left_after : Option (List ℕ)) → Serves input left → IsOverlong input left left_after → ⊥
+overrun_fails : (input : Input) (left left_after : Option (List ℕ)) → Serves input left
+    → IsOverlong input left left_after → ⊥
 overrun_fails Nothing left left_after served over = over
 overrun_fails Polygon left left_after served over = too_much Polygon left left_after served over
 overrun_fails Sessions left left_after served over = too_much Sessions left left_after served over
-overrun_fails Certificate left left_after served over = too_much Certificate left left_after served over
+overrun_fails Certificate left left_after served over =
+    too_much Certificate left left_after served over
 overrun_fails Questions left left_after served over = too_much Questions left left_after served over
 
-module _ (c : Command) (left left_after got got_after : Option (List ℕ)) (served : Serves (input_of c) left) where
+module _ (c : Command) (left left_after got got_after : Option (List ℕ))
+    (served : Serves (input_of c) left) where
   refusal_fails : EndsAs c Refused left left_after got got_after → ⊥
   refusal_fails a = a.owed.no_input (read_good (input_of c) left left_after a.text served a.read)
 
@@ -75,7 +91,8 @@ module _ (c : Command) (left left_after got got_after : Option (List ℕ)) (serv
   ends_well ReadFault r s w v end no_read no_write = absurd (no_read end.0)
   ends_well WriteFault r s w v end no_read no_write = absurd (no_write end.0)
   ends_well Refused r s w v end no_read no_write = absurd (refusal_fails end)
-  ends_well TooLong r s w v end no_read no_write = absurd (overrun_fails (input_of c) left left_after served end.0)
+  ends_well TooLong r s w v end no_read no_write =
+      absurd (overrun_fails (input_of c) left left_after served end.0)
 
 -- where words ask for one command, a good run of it ends well
 pub completes : (Asking : List (List ℕ) → Command → Type 0) (words : List (List ℕ)) (left left_after got got_after : Option (List ℕ))

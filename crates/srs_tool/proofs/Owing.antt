@@ -38,7 +38,8 @@ owed_fault command text c line fault r has first is =
 
 -- where the source was read to its end and what is owed for that was said, the command has ended so
 pub said : (c : Command) (text : List ℕ) (status : Status) (output : List ℕ) (result : Status) (left left_after : Option (List ℕ)) (reads reads_after : ℕ)
-    (got got_after : Option (List ℕ)) (writes writes_after : ℕ) → Reads (input_of c) left left_after text → Owes c text status output
+    (got got_after : Option (List ℕ)) (writes writes_after : ℕ)
+    → Reads (input_of c) left left_after text → Owes c text status output
     → Says status result got got_after writes writes_after output
     → EndsBy c result left left_after reads reads_after got got_after writes writes_after
 said c text Done output result l m r s g h w v read owed (inl (e, all)) = rw e (record { text = text; read = read; output = output; owed = owed; written = all })

@@ -60,14 +60,18 @@ no_order words first depth cells wits workers None is out =
 no_order words first depth cells wits workers (Some x) is out = tt
 
 -- where they spell no seed and number of points, they don't ask for a sample by this name
-pub no_sample : {X : Type 0} (words : List (List ℕ)) (name first seed points : List ℕ) (r : Option X) → words ≡ first ∷ seed ∷ points ∷ []
+pub no_sample : {X : Type 0} (words : List (List ℕ)) (name first seed points : List ℕ)
+    (r : Option X) → words ≡ first ∷ seed ∷ points ∷ []
     → IfNone r ((s n : ℕ) → SpellsSample (seed ∷ points ∷ []) s n → ⊥)
     → IfNone r ((s n : ℕ) → AsksForSample words name s n → ⊥)
 no_sample words name first seed points None is out =
-    λ s n asked. let a = subst (λ (ws : List (List ℕ)). AsksForSample ws name s n) is asked in out s n (a.0.1, a.1)
+    λ s n asked. let a =
+    subst (λ (ws : List (List ℕ)). AsksForSample ws name s n) is asked in out s n (a.0.1, a.1)
 no_sample words name first seed points (Some x) is out = tt
 
 -- there are three words
-pub sample_length : (words : List (List ℕ)) (name : List ℕ) (s n : ℕ) → AsksForSample words name s n → length words ≡ 3
+pub sample_length : (words : List (List ℕ)) (name : List ℕ) (s n : ℕ) → AsksForSample words name s n
+    → length words ≡ 3
 sample_length [] name s n asked = absurd asked.0
-sample_length (first ∷ others) name s n asked = ap (λ (n : ℕ). suc n) (numbers_length others (sample_numbers s n) asked.0.1)
+sample_length (first ∷ others) name s n asked =
+    ap (λ (n : ℕ). suc n) (numbers_length others (sample_numbers s n) asked.0.1)

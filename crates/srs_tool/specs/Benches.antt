@@ -26,7 +26,8 @@ abbrev pub AreAnswers : Area → Tree → List Point → List Reply → Type 0
 AreAnswers Root T [] [] = ⊤
 AreAnswers Root T [] (reply ∷ replies) = ⊥
 AreAnswers Root T (r ∷ points) [] = ⊥
-AreAnswers Root T (r ∷ points) (reply ∷ replies) = Answers Root T r reply × AreAnswers Root T points replies
+AreAnswers Root T (r ∷ points) (reply ∷ replies) =
+    Answers Root T r reply × AreAnswers Root T points replies
 
 -- how many of the replies are of each kind
 abbrev pub answer_counts : List Reply → AnswerCounts
@@ -48,13 +49,15 @@ pub record CountsAnswers (Root : Area) (T : Tree) (points : List Point) (counts 
 abbrev pub answers_line : AnswerCounts → List ℕ
 answers_line n =
     line_of (codes "points in") (pos n.inside ∷ []) ++ line_of (codes " out") (pos n.outside ∷ [])
-    ++ line_of (codes " open") (pos n.undecided ∷ []) ++ line_of (codes " beyond") (pos n.beyond ∷ [])
+    ++ line_of (codes " open") (pos n.undecided ∷ [])
+    ++ line_of (codes " beyond") (pos n.beyond ∷ [])
     ++ codes "\n"
 
 -- the three lines: the seed and the number of points, the nodes, the answers
 abbrev pub bench_text : ℕ → ℕ → Counts → AnswerCounts → List ℕ
 bench_text s n nodes answers =
-    ended (line_of (codes "bench") (pos s ∷ pos n ∷ [])) ++ counts_line nodes ++ answers_line answers
+    ended (line_of (codes "bench") (pos s ∷ pos n ∷ [])) ++ counts_line nodes
+    ++ answers_line answers
 
 -- the version stands for the plan of the region with these limits, and the counts are those of its
 -- events
@@ -72,5 +75,6 @@ pub record IsBenchText (s n : ℕ) (text : List ℕ) : Type 0 where
   pub decides : Decides (region_of (made_vertices s)) bench_limits history
   pub planned : HasNoMemory history
   pub answers : AnswerCounts
-  pub answered : CountsAnswers (region_of (made_vertices s)) (outcome_at history) (made_points s n) answers
+  pub answered : CountsAnswers (region_of (made_vertices s)) (outcome_at history)
+      (made_points s n) answers
   pub written : text ≡ bench_text s n (counts_of history) answers

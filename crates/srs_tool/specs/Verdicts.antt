@@ -8,8 +8,10 @@ use Rattle.srs_check.specs.declared.faults.Fault.TheVariants.{NoUnit, NotClosed,
 -- how many nodes there are, and how many of each kind
 abbrev pub counts_line : Counts → List ℕ
 counts_line n =
-    line_of (codes "cells") (pos n.cells ∷ []) ++ line_of (codes " in") (pos n.inside ∷ []) ++ line_of (codes " out") (pos n.outside ∷ [])
-    ++ line_of (codes " cut") (pos n.cut ∷ []) ++ line_of (codes " left") (pos n.left ∷ []) ++ codes "\n"
+    line_of (codes "cells") (pos n.cells ∷ []) ++ line_of (codes " in") (pos n.inside ∷ [])
+    ++ line_of (codes " out") (pos n.outside ∷ [])
+    ++ line_of (codes " cut") (pos n.cut ∷ []) ++ line_of (codes " left") (pos n.left ∷ [])
+    ++ codes "\n"
 
 -- each node proves itself, and how many there are of each kind
 abbrev pub valid_line : Counts → List ℕ

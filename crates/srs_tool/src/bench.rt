@@ -69,8 +69,8 @@ impl AnswerCounts {
     }
 }
 
-/// How many nodes of each kind the certificate of the polygon of the seed has, and how many of its points have an answer of
-/// each kind. An `Err` is want of memory.
+/// How many nodes of each kind the certificate of the polygon of the seed has, and how many of its
+/// points have an answer of each kind. An `Err` is want of memory.
 pub fn bench(alloc: Global, s: u32, n: u32) -> Result<Output, NoMemory>
     requires { IsSampleSize s n }
     ensures { IfOk result (λ o. Owes (Bench s n) [] o.status o.text) }

@@ -18,10 +18,11 @@ pub enum Command {
     Map(u32, u32),
     /// To check the certificate that is read, and answer the questions behind it.
     Ask,
-    /// To print the input of `live` that the seed gives with so many points. The seed is below 2^31, the points are at most
-    /// 10000.
+    /// To print the input of `live` that the seed gives with so many points. The seed is below
+    /// 2^31, the points are at most 10000.
     Make(u32, u32),
-    /// To certify the polygon of that input, answer its points, and print how many cells and points there are of each kind.
+    /// To certify the polygon of that input, answer its points, and print how many cells and points
+    /// there are of each kind.
     Bench(u32, u32),
 }
 

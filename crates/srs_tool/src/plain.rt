@@ -21,21 +21,27 @@ use srs_num::NoMemory;
 use srs_text::{Bytes, ReadErr, Sink, Source, read_all};
 use std::alloc::Global;
 
-/// Does what the words ask for, where that starts no thread: reads the source, and writes to the sink. The words of `live`
-/// are answered with `Usage`, as words in no form are.
+/// Does what the words ask for, where that starts no thread: reads the source, and writes to the
+/// sink. The words of `live` are answered with `Usage`, as words in no form are.
 ///
-/// At `Done` the source was read to its end, and what the command owes was written. `certify`: the bytes are the text of
-/// a polygon, and its certificate was written, which lists the plan of its region. The leaves of the plan partition the
-/// region; each point of a cell that is inside is finite, and at each point of one that is outside the printed cycle
-/// comes back. `check`: the bytes are the text of a certificate, each node of which proves itself, and so the same holds
-/// of its leaves. `map`: the same, and what was written is its map; each character is that of the answer at its point,
-/// over the certificate's own events. `ask`: the bytes are such a certificate and questions, and what was written has a
-/// line for each question in order: the answer at a point over the certificate's own events, with the cause that they
-/// give; for each kind of answer whether some point of a polygon has it; the first event of an orbit. At `Bad` of these
-/// three what was written names the first node that doesn't prove itself, and its fault. At `Refused` the bytes are no
-/// input of the command, and what was written names the first slip and its line. A good input of at most 2^20 bytes, or
-/// 2^27 where a certificate is read, ends well or for want of memory, unless an end fails. After a refusal the source
-/// has lost what was taken from it; at `NoMemory` nothing was written.
+/// At `Done` the source was read to its end, but for the last two commands, and what the command
+/// owes was written. `certify`: the bytes are the text of a polygon, and its certificate was
+/// written, which lists the plan of its region. The leaves of the plan partition the region; each
+/// point of a cell that is inside is finite, and at each point of one that is outside the printed
+/// cycle comes back. `check`: the bytes are the text of a certificate, each node of which proves
+/// itself, and so the same holds of its leaves. `map`: the same, and what was written is its map;
+/// each character is that of the answer at its point, over the certificate's own events. `ask`: the
+/// bytes are such a certificate and questions, and what was written has a line for each question in
+/// order: the answer at a point over the certificate's own events, with the cause that they give;
+/// for each kind of answer whether some point of a polygon has it; the first event of an orbit.
+/// `make` and `bench` leave the source as it is, and end with `Done`, for want of memory, or with a
+/// failed write: `make` writes the input of `live` that the seed gives, `bench` how many nodes of
+/// each kind the plan of its polygon has, and how many of its points have an answer of each kind
+/// over that plan. At `Bad` of `check`, `map` and `ask` what was written names the first node that
+/// doesn't prove itself, and its fault. At `Refused` the bytes are no input of the command, and
+/// what was written names the first slip and its line. A good input of at most 2^20 bytes, or 2^27
+/// where a certificate is read, ends well or for want of memory, unless an end fails. After a
+/// refusal the source has lost what was taken from it; at `NoMemory` nothing was written.
 pub fn plain<S: Source, K: Sink>(
     alloc: Global,
     words: &[String],

@@ -10,7 +10,8 @@ const UNREAD: &[u8] = b"polygon 3\n";
 
 const TRIANGLE: &[u8] = b"polygon 3\nge -1 0 1\nge 1 -2 1\ngt 1 2 1\n";
 
-// Inputs for the ends of the seeds, with no point, with one, and with an even and an odd number of them.
+// Inputs for the ends of the seeds, with no point, with one, and with an even and an odd number of
+// them.
 const MADE: [(&str, &str); 4] = [
     (
         "make 1 2",
@@ -33,7 +34,8 @@ const MADE: [(&str, &str); 4] = [
 const BENCHED: &str =
     "bench 1 20\ncells 855 in 17 out 33 cut 427 left 378\npoints in 4 out 2 open 8 beyond 6\n";
 
-// The place of the first row at which something else is written, or something is read; none where there is no such row.
+// The place of the first row at which something else is written, or something is read; none where
+// there is no such row.
 fn first_other_made(alloc: Global) -> Result<Option<usize>, Fail> {
     for (i, (words, output)) in MADE.iter().enumerate() {
         let seen = play(alloc, words, &[UNREAD])?;

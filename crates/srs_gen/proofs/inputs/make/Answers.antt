@@ -10,4 +10,5 @@ returns-in-Ok-clause-grammar c =
     let s = c.args.s in
     let n = c.args.n in
     let text : c.put_input.new.text ≡ made_text s n = search rules in
-    subst (λ (t : List ℕ). SpellsLive t (made_vertices s) (made_script s n)) (sym text) (made_spelled s n)
+    subst (λ (t : List ℕ). SpellsLive t (made_vertices s) (made_script s n)) (sym text)
+    (made_spelled s n)

@@ -6,4 +6,5 @@ use Rattle.srs_gen.proofs.samples.made_sample.Goals as goal
 
 pub returns-clause-polygon : goal.returns-clause-polygon
 returns-clause-polygon c =
-    subst (λ (vs : List Vertex). IsPolygon vs) (sym c.vertices-vertices.ensures.vertices) (made_polygon c.new-draws.result)
+    subst (λ (vs : List Vertex). IsPolygon vs) (sym c.vertices-vertices.ensures.vertices)
+    (made_polygon c.new-draws.result)

@@ -11,10 +11,13 @@ loop-i-preserved c =
     let x = c.args.draws.now in
     let pushed : c.push.new.self ≡ c.loop-i.points ++ c.point.result ∷ [] = search rules in
     let point : c.point.result ≡ point_from c.loop-i.draws = c.point.ensures.point in
-    let draws : c.point.new.draws ≡ next_state (next_state c.loop-i.draws) = c.point.ensures.draws in
+    let draws : c.point.new.draws ≡ next_state (next_state c.loop-i.draws) =
+    c.point.ensures.draws in
     record {
       points = pushed
-          ∙ ap₂ (λ (ps : List Point) (r : Point). ps ++ r ∷ []) c.loop-i.invariant.points (point ∙ ap point_from c.loop-i.invariant.draws)
+          ∙ ap₂ (λ (ps : List Point) (r : Point). ps ++ r ∷ []) c.loop-i.invariant.points
+          (point ∙ ap point_from c.loop-i.invariant.draws)
           ∙ sym (points_more x c.loop-i._i);
-      draws = draws ∙ ap (λ y. next_state (next_state y)) c.loop-i.invariant.draws ∙ sym (state_after_more x c.loop-i._i);
+      draws = draws ∙ ap (λ y. next_state (next_state y)) c.loop-i.invariant.draws
+          ∙ sym (state_after_more x c.loop-i._i);
     }

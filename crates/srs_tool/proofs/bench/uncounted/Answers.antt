@@ -13,8 +13,11 @@ with-counts-requires g c =
     let v = c.args.version.now in
     let points = take c.loop-r.r-index c.args.points.now in
     record {
-      few = omega (arith, answers_few v.region (tree_of v) points c.loop-r.counts c.loop-r.invariant,
-      length-take-le c.loop-r.r-index c.args.points.now (omega arith));
+      few = omega (
+        arith,
+        answers_few v.region (tree_of v) points c.loop-r.counts c.loop-r.invariant,
+        length-take-le c.loop-r.r-index c.args.points.now (omega arith),
+      );
     }
 
 pub loop-r-preserved : goal.loop-r-preserved
@@ -24,7 +27,11 @@ loop-r-preserved g c =
     let i = c.loop-r.r-index in
     let r : Point = c.r-item.result in
     let more : take (i + 1) points ≡ take i points ++ r ∷ [] =
-    take_more points i r (omega arith) ∙ ap (λ (s : Point). take i points ++ s ∷ []) (sym c.r-item.is) in
-    subst (λ (ps : List Point). CountsAnswers v.region (tree_of v) ps c.with-counts.result) (sym more)
-    (answer_more v.region (tree_of v) (take i points) r (reply_of c.locate.result) c.loop-r.counts c.with-counts.result c.loop-r.invariant
-    c.locate.ensures.answer c.with-counts.ensures.inside c.with-counts.ensures.outside c.with-counts.ensures.undecided c.with-counts.ensures.beyond)
+    take_more points i r (omega arith)
+    ∙ ap (λ (s : Point). take i points ++ s ∷ []) (sym c.r-item.is) in
+    subst (λ (ps : List Point). CountsAnswers v.region (tree_of v) ps c.with-counts.result)
+    (sym more)
+    (answer_more v.region (tree_of v) (take i points) r
+    (reply_of c.locate.result) c.loop-r.counts c.with-counts.result c.loop-r.invariant
+    c.locate.ensures.answer c.with-counts.ensures.inside c.with-counts.ensures.outside
+    c.with-counts.ensures.undecided c.with-counts.ensures.beyond)

@@ -5,4 +5,5 @@ use Rattle.srs_tool.specs.Benches.{CountsAnswers}
 use Rattle.srs_tool.proofs.bench.uncounted.Given as goal
 
 abbrev pub invariant-loop-r : goal.invariant-loop-r
-invariant-loop-r g l = CountsAnswers l.version.region (tree_of l.version) (take l.r-index l.points) l.counts
+invariant-loop-r g l =
+    CountsAnswers l.version.region (tree_of l.version) (take l.r-index l.points) l.counts

@@ -20,7 +20,8 @@ returns-in-Some-clause-ends g c other =
 pub returns-in-Some-clause-unread : goal.returns-in-Some-clause-unread
 returns-in-Some-clause-unread g c command asked none =
     c.read_and_answer.ensures.unread
-    (subst (λ (d : Command). input_of d ≡ Nothing) (one_plain_command _ command c.in-Some.command asked c.in-Some.ensures.some) none)
+    (subst (λ (d : Command). input_of d ≡ Nothing)
+    (one_plain_command _ command c.in-Some.command asked c.in-Some.ensures.some) none)
 
 pub returns-in-Some-clause-complete : goal.returns-in-Some-clause-complete
 returns-in-Some-clause-complete g c good =

@@ -11,7 +11,9 @@ pub returns-in-Some-clause-unread : goal.returns-in-Some-clause-unread
 returns-in-Some-clause-unread g c command asked none =
     let live : Command = Live c.in-Some.limits c.in-Some.workers in
     let this : SpellsCommand (map string_bytes c.args.words.now) live = search rules in
-    let reads : Sessions ≡ Nothing = subst (λ (d : Command). input_of d ≡ Nothing) (one_command _ command live asked this) none in
+    let reads : Sessions ≡ Nothing =
+    subst (λ (d : Command). input_of d ≡ Nothing)
+    (one_command _ command live asked this) none in
     absurd cc
 
 pub returns-in-None-clause-unread : goal.returns-in-None-clause-unread
