@@ -102,7 +102,6 @@ module _ (Root : Area) (T : Tree) where
           more ∙ ap (λ (n : ℕ). n + cond (kind reply) 1 0) is
           ∙ sym (sum_by_push (λ (a : Reply). cond (kind a) 1 0) c.replies reply)
 
-<<<<<<< HEAD
 one_outcome : (x y : Outcome) → Some x ≡ Some y → x ≡ y
 one_outcome x y e = cc
 
@@ -122,23 +121,12 @@ planned_by R W H v legal stands none e c =
 pub counted_plan_of : (R : Area) (v : Snapshot) (nodes : Counts) → IsBudget bench_limits → HasPoint R → IsRefined R bench_limits v
     → HasNoMemory (preorder_of v) → nodes ≡ counts_of (preorder_of v) → IsCountedPlan R v nodes
 counted_plan_of R v nodes budget point refined none counted = record {
-=======
-pub counted_plan_of : (R : Area) (v : Snapshot) (nodes : Counts) → IsBudget bench_limits
-    → HasPoint R → IsRefined R bench_limits v
-    → nodes ≡ counts_of (preorder_of v) → IsCountedPlan R v nodes
-counted_plan_of R v nodes budget point refined counted = record {
->>>>>>> 0b58a4e5859e6ddde9cd9b15d8a8237d79393433
   history = refined.history;
   decides = whole_decides R bench_limits refined.history point refined.whole;
   planned = planned_by R bench_limits.wits refined.history v refined.whole.legal refined.stands none;
   stands = refined.stands;
   counted = counted
-<<<<<<< HEAD
       ∙ counts_same R bench_limits refined.history v refined.whole refined.stands (refined_listed bench_limits R v budget refined).0;
-=======
-      ∙ counts_same R bench_limits refined.history v refined.plan.whole refined.stands
-      (refined_listed bench_limits R v budget refined).0;
->>>>>>> 0b58a4e5859e6ddde9cd9b15d8a8237d79393433
 }
 
 pub bench_text_of : (s n : ℕ) (vs : List Vertex) (points : List Point) (v : Snapshot)

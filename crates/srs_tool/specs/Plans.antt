@@ -8,7 +8,6 @@ use Rattle.srs_path.specs.Soundness.{IsSound}
 use Rattle.srs_tree.specs.Tree.{History, outcome_at, region_at, IsPartition}
 use Rattle.srs_tree.specs.Rounds.{IsWhole}
 
-<<<<<<< HEAD
 -- no cell of H was left for want of memory
 abbrev pub HasNoMemory : History → Type 0
 HasNoMemory H = (e : Entry) → Contains H e → e.outcome ≢ Left Memory
@@ -16,11 +15,6 @@ HasNoMemory H = (e : Entry) → Contains H e → e.outcome ≢ Left Memory
 -- H is whole within the limits: the plan of the region, where no cell was left for want of memory. Its
 -- leaves partition the region, and what each outcome claims holds of its cell: inside, each point is
 -- finite; outside, at each point the printed pair recurs; cut, the form divides the cell
-=======
--- H is the plan of the region. Its leaves partition the region, and what each outcome claims holds
--- of its cell: inside, each point is finite; outside, at each point the printed pair recurs; cut,
--- the form divides the cell
->>>>>>> 0b58a4e5859e6ddde9cd9b15d8a8237d79393433
 pub record Decides (Root : Area) (b : Budget) (H : History) : Type 0 where
   pub whole : IsWhole Root b H
   pub partition : IsPartition Root (outcome_at H)

@@ -8,6 +8,7 @@ use Rattle.srs_tree.specs.WholeTrees.{ListsWholeTree, IsWithin}
 use Rattle.srs_cert.specs.Certificates.{CertView}
 use Rattle.srs_check.specs.Faults.{counts_of}
 use Rattle.srs_rounds.specs.Refined.{IsRefined}
+use Rattle.srs_tool.specs.Plans.{HasNoMemory}
 use Rattle.srs_tool.specs.Benches.{bench_limits, IsCountedPlan}
 use Rattle.srs_plane.proofs.Ring_of_vertices.{few_halves}
 use Rattle.srs_tool.proofs.Certifying.{refined_listed}
@@ -42,5 +43,7 @@ returns c =
     let counted : nodes ≡ counts_of (preorder_of v) =
     c.count_nodes-nodes.ensures ∙ ap (λ (k : CertView). counts_of k.events) c.in_ok-cert.ensures
     ∙ ap (λ (H : History). counts_of H) c.in_ok-events.ensures in
+    let none : HasNoMemory (preorder_of v) =
+    subst HasNoMemory c.in_ok-events.ensures (c.is_planned.ensures c.if-is_planned.true) in
     subst (λ (Q : Area). IsCountedPlan Q v nodes) c.in_ok-cell.ensures
-    (counted_plan_of R v nodes budget c.region.ensures.has_point refined counted)
+    (counted_plan_of R v nodes budget c.region.ensures.has_point refined none counted)
