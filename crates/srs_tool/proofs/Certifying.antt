@@ -38,18 +38,14 @@ plan_decides R b H point plan = record {
   sound = events_sound R b.wits H plan.whole.legal;
 }
 
-refined_text : (vs : List Vertex) (b : Budget) (v : Snapshot) (text : List ℕ) → HasPoint (region_of vs) → IsRefined (region_of vs) b v
-    → text ≡ cert_text (record { vertices = vs; limits = b; events = preorder_of v }) → IsCertificateOf vs b text
-refined_text vs b v text point refined written = record {
+pub certificate_of : (vs : List Vertex) (b : Budget) (v : Snapshot) (text : List ℕ)
+    → HasPoint (region_of vs) → IsRefined (region_of vs) b v → text ≡ cert_text (cert_of vs b v)
+    → IsCertificateOf vs b text
+certificate_of vs b v text point refined written = record {
   history = refined.history;
   decides = plan_decides (region_of vs) b refined.history point refined.plan;
   written = record { snapshot = v; stands = refined.stands; written = written };
 }
-
-pub certificate_of : (vs : List Vertex) (b : Budget) (R : Area) (v : Snapshot) (text : List ℕ) → R ≡ region_of vs → HasPoint R → IsRefined R b v
-    → text ≡ cert_text (record { vertices = vs; limits = b; events = preorder_of v }) → IsCertificateOf vs b text
-certificate_of vs b R v text is point refined written =
-    refined_text vs b v text (subst HasPoint is point) (subst (λ (S : Area). IsRefined S b v) is refined) written
 
 -- a polygon has one certificate at most
 pub one_certificate_of : (vs : List Vertex) (b : Budget) (s t : List ℕ) → IsCertificateOf vs b s → IsCertificateOf vs b t → s ≡ t

@@ -8,17 +8,16 @@ ghost use Rattle.srs_tool.specs.Benches.{bench_limits, IsCountedPlan, CountsAnsw
 ghost use Rattle.srs_tool.specs.Words.{IsSampleSize};
 ghost use Rattle.srs_tool.specs.Output.{Owes};
 
+use crate::certify::plan_of;
 use crate::lines::put_counts;
 use crate::output::Output;
 use crate::status::Status;
-use srs_cert::Cert;
 use srs_check::{Counts, count_nodes, polygon_cell};
 use srs_gen::made_sample;
 use srs_num::{NoMemory, Pt, Steps};
 use srs_path::Limits;
 use srs_plane::Vertex;
 use srs_print::{put_line, put_words};
-use srs_rounds::rounds;
 use srs_text::Bytes;
 use srs_tree::{Answer, Version};
 use std::alloc::Global;
@@ -106,9 +105,7 @@ fn counted_plan(alloc: Global, vertices: &[Vertex]) -> Result<(Version, Counts),
     let _ = cell.region();
     let limits = bench_limits();
     let _ = limits.wits();
-    let version = rounds(alloc, cell, &limits)?;
-    let events = version.preorder(alloc)?;
-    let cert = Cert::new(alloc, vertices, limits, events)?;
+    let (version, cert) = plan_of(alloc, &limits, vertices, cell)?;
     let nodes = count_nodes(&cert);
     Ok((version, nodes))
 }
