@@ -42,9 +42,10 @@ whole_decides R b H point whole = record {
 pub planned_text : (vs : List Vertex) (b : Budget) (H : History) (text : List ℕ) → IsWhole (region_of vs) b H → IsTextOf vs b H text → HasNoMemory H → IsPlanCertificateOf vs b text
 planned_text vs b H text whole written none = record { history = H; plan = record { whole = whole; no_memory = none }; written = written }
 
-refined_text : (vs : List Vertex) (b : Budget) (v : Snapshot) (text : List ℕ) → HasPoint (region_of vs) → IsRefined (region_of vs) b v
-    → text ≡ cert_text (record { vertices = vs; limits = b; events = preorder_of v }) → IsCertificateOf vs b text
-refined_text vs b v text point refined written =
+pub certificate_of : (vs : List Vertex) (b : Budget) (v : Snapshot) (text : List ℕ)
+    → HasPoint (region_of vs) → IsRefined (region_of vs) b v → text ≡ cert_text (cert_of vs b v)
+    → IsCertificateOf vs b text
+certificate_of vs b v text point refined written =
     let lists : IsTextOf vs b refined.history text = record { snapshot = v; stands = refined.stands; written = written } in
     record {
       history = refined.history;
@@ -52,11 +53,6 @@ refined_text vs b v text point refined written =
       written = lists;
       planned = planned_text vs b refined.history text refined.whole lists;
     }
-
-pub certificate_of : (vs : List Vertex) (b : Budget) (R : Area) (v : Snapshot) (text : List ℕ) → R ≡ region_of vs → HasPoint R → IsRefined R b v
-    → text ≡ cert_text (record { vertices = vs; limits = b; events = preorder_of v }) → IsCertificateOf vs b text
-certificate_of vs b R v text is point refined written =
-    refined_text vs b v text (subst HasPoint is point) (subst (λ (S : Area). IsRefined S b v) is refined) written
 
 -- the plan of a polygon's region has one certificate
 pub one_certificate_of : (vs : List Vertex) (b : Budget) (s t : List ℕ) → IsPlanCertificateOf vs b s → IsPlanCertificateOf vs b t → s ≡ t

@@ -9,17 +9,16 @@ ghost use Rattle.srs_tool.specs.Plans.{HasNoMemory};
 ghost use Rattle.srs_tool.specs.Words.{IsSampleSize};
 ghost use Rattle.srs_tool.specs.Output.{Owes};
 
+use crate::certify::plan_of;
 use crate::lines::put_counts;
 use crate::output::Output;
 use crate::status::Status;
-use srs_cert::Cert;
 use srs_check::{Counts, count_nodes, polygon_cell};
 use srs_gen::made_sample;
 use srs_num::{NoMemory, Pt, Steps};
 use srs_path::{Cause, Limits, Outcome};
 use srs_plane::Vertex;
 use srs_print::{put_line, put_words};
-use srs_rounds::rounds;
 use srs_text::Bytes;
 use srs_tree::{Answer, Journal, Version};
 use std::alloc::Global;
@@ -107,12 +106,10 @@ fn counted_plan(alloc: Global, vertices: &[Vertex]) -> Result<(Version, Counts),
     let _ = cell.region();
     let limits = bench_limits();
     let _ = limits.wits();
-    let version = rounds(alloc, cell, &limits)?;
-    let events = version.preorder(alloc)?;
-    if !is_planned(&events) {
+    let (version, cert) = plan_of(alloc, &limits, vertices, cell)?;
+    if !is_planned(cert.events()) {
         return Err(NoMemory);
     }
-    let cert = Cert::new(alloc, vertices, limits, events)?;
     let nodes = count_nodes(&cert);
     Ok((version, nodes))
 }

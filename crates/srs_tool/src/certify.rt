@@ -1,6 +1,8 @@
 // The command `certify`.
 ghost use Rattle.std.specs.Prelude.{◌≡◌, ◌≤◌, ◌^◌, IfOk, length};
 ghost use Rattle.srs_plane.specs.Polygons.{IsPolygon, region_of};
+ghost use Rattle.srs_cert.specs.Lives.{cert_of};
+ghost use Rattle.srs_rounds.specs.Refined.{IsRefined};
 ghost use Rattle.srs_tool.specs.declared.commands.Command.TheVariants.{Certify};
 ghost use Rattle.srs_tool.specs.Output.{IsCertificateOf, Owes};
 
@@ -11,10 +13,11 @@ use srs_cell::Cell;
 use srs_file::{Cert, FileErr, read_polygon};
 use srs_num::NoMemory;
 use srs_path::Limits;
-use srs_plane::Vertices;
+use srs_plane::{Vertex, Vertices};
 use srs_print::put_cert;
 use srs_rounds::rounds;
 use srs_text::Bytes;
+use srs_tree::Version;
 use std::alloc::Global;
 
 /// The certificate of the polygon that the input spells, or the refusal of the input. An `Err` is want of memory.
@@ -46,15 +49,33 @@ fn certificate(
     requires region { cell ≡ region_of vertices.now }
     ensures { IfOk result (IsCertificateOf vertices.now limits.now) }
 {
-    // A cell has a point, and limits are within their ranges.
+    // A cell has a point.
     let _ = cell.region();
-    let _ = limits.wits();
-    let version = rounds(alloc, cell, limits)?;
-    let events = version.preorder(alloc)?;
-    let cert = Cert::new(alloc, vertices.as_slice(), *limits, events)?;
+    let (_version, cert) = plan_of(alloc, limits, vertices.as_slice(), cell)?;
     let mut text = Bytes::new(alloc);
     match put_cert(&mut text, &cert) {
         Ok(()) => Ok(text),
         Err(_) => Err(NoMemory),
     }
+}
+
+/// The plan of the polygon with this cell, and its certificate. An `Err` is want of memory.
+pub fn plan_of(
+    alloc: Global,
+    limits: &Limits,
+    vertices: &[Vertex],
+    cell: Cell,
+) -> Result<(Version, Cert), NoMemory>
+    requires polygon { IsPolygon vertices.now }
+    requires region { cell ≡ region_of vertices.now }
+    ensures refined { IfOk result
+        (λ r. IsRefined (region_of vertices.now) limits.now r.0) }
+    ensures certificate { IfOk result (λ r. r.1 ≡ cert_of vertices.now limits.now r.0) }
+{
+    // Limits are within their ranges.
+    let _ = limits.wits();
+    let version = rounds(alloc, cell, limits)?;
+    let events = version.preorder(alloc)?;
+    let cert = Cert::new(alloc, vertices, *limits, events)?;
+    Ok((version, cert))
 }
