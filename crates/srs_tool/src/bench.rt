@@ -9,7 +9,7 @@ ghost use Rattle.srs_tool.specs.Plans.{HasNoMemory};
 ghost use Rattle.srs_tool.specs.Words.{IsSampleSize};
 ghost use Rattle.srs_tool.specs.Output.{Owes};
 
-use crate::certify::plan_of;
+use crate::certify::refine_polygon;
 use crate::lines::put_counts;
 use crate::output::Output;
 use crate::status::Status;
@@ -106,7 +106,7 @@ fn counted_plan(alloc: Global, vertices: &[Vertex]) -> Result<(Version, Counts),
     let _ = cell.region();
     let limits = bench_limits();
     let _ = limits.wits();
-    let (version, cert) = plan_of(alloc, &limits, vertices, cell)?;
+    let (version, cert) = refine_polygon(alloc, &limits, vertices, cell)?;
     if !is_planned(cert.events()) {
         return Err(NoMemory);
     }

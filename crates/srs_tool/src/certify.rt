@@ -51,7 +51,7 @@ fn certificate(
 {
     // A cell has a point.
     let _ = cell.region();
-    let (_version, cert) = plan_of(alloc, limits, vertices.as_slice(), cell)?;
+    let (_version, cert) = refine_polygon(alloc, limits, vertices.as_slice(), cell)?;
     let mut text = Bytes::new(alloc);
     match put_cert(&mut text, &cert) {
         Ok(()) => Ok(text),
@@ -59,8 +59,9 @@ fn certificate(
     }
 }
 
-/// The plan of the polygon with this cell, and its certificate. An `Err` is want of memory.
-pub fn plan_of(
+/// The tree of the polygon with this cell, refined round by round, and its certificate. An `Err` is
+/// want of memory for the two.
+pub fn refine_polygon(
     alloc: Global,
     limits: &Limits,
     vertices: &[Vertex],

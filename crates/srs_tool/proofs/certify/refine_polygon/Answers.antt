@@ -6,7 +6,7 @@ use Rattle.srs_tree.specs.WholeTrees.{ListsWholeTree, IsWithin}
 use Rattle.srs_cert.specs.Certificates.{CertView}
 use Rattle.srs_rounds.specs.Refined.{IsRefined}
 use Rattle.srs_tool.proofs.Certifying.{refined_listed}
-use Rattle.srs_tool.proofs.certify.plan_of.Goals as goal
+use Rattle.srs_tool.proofs.certify.refine_polygon.Goals as goal
 
 pub rounds-requires : goal.rounds-requires
 rounds-requires c =
