@@ -62,7 +62,10 @@ fn ask(queries: &mut Queries, query: Query) -> Result<(), Fail>
 }
 
 fn ask_point(queries: &mut Queries, p: i64, q: i64, d: i64) -> Result<(), Fail> {
-    ask(queries, Query::Point(Pt::new(p, q, d).ok_or("it is small")?))
+    ask(
+        queries,
+        Query::Point(Pt::new(p, q, d).ok_or("it is small")?),
+    )
 }
 
 // The orbit of (1,1) at (1/4,-1/4), of 100 steps at most.
