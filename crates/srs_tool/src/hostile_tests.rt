@@ -163,3 +163,30 @@ fn deep_file(rt: HostRuntime) -> Result<(), Fail> {
     assert_eq!(rt; first_other_depth(rt.alloc())?, None);
     Ok(())
 }
+
+// A certificate whose one leaf was left for want of memory, and a question behind it.
+const LEFT_MEMORY: &str =
+    "srs 1\npolygon 3\nge 0 0 1\nge 1 0 8\nge 0 1 8\nlimits 0 1 16\nleft memory\nend\n";
+
+const LEFT_MEMORY_CHECKED: [(&str, &str); 1] = [("", "valid cells 1 in 0 out 0 cut 0 left 1\n")];
+
+const LEFT_MEMORY_ASKED: [(&str, &str); 1] = [(
+    "point 1 1 32\nend\n",
+    "point 1 1 32 open memory\n",
+)];
+
+#[test]
+fn left_memory_leaf(rt: HostRuntime) -> Result<(), Fail> {
+    let alloc = rt.alloc();
+    let checked = first_other_of(
+        alloc,
+        "check",
+        LEFT_MEMORY,
+        &LEFT_MEMORY_CHECKED,
+        Status::Done,
+    )?;
+    assert_eq!(rt; checked, None);
+    let asked = first_other_of(alloc, "ask", LEFT_MEMORY, &LEFT_MEMORY_ASKED, Status::Done)?;
+    assert_eq!(rt; asked, None);
+    Ok(())
+}
