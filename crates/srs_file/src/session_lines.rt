@@ -7,7 +7,7 @@ ghost use Rattle.srs_file.specs.SessionReading.{no_sessions, IsBegun, IsLater, S
 
 use crate::Questions;
 use srs_line::{LineErr, Slip, count_of, has_word};
-use srs_tree::{Queries, Script, Segment, Session};
+use srs_tree::{Script, Segment, Session};
 use std::alloc::Global;
 use std::marker::Model;
 use std::mem;
