@@ -1,6 +1,8 @@
 // The command `bench`.
-ghost use Rattle.std.specs.Prelude.{◌≡◌, ◌+◌, ◌≤◌, ◌<◌, ◌++◌, [], length, cond, IsTrue, IfOk, OnOk};
+ghost use Rattle.std.specs.Prelude.{◌≡◌, ◌+◌, ◌≤◌, ◌<◌, ◌++◌, [], length, cond, false, IsTrue, ◌↔◌, IfOk, OnOk};
 ghost use Rattle.srs_plane.specs.Polygons.{IsPolygon, region_of};
+ghost use Rattle.srs_path.specs.declared.outcomes.Outcome.TheVariants.{Left};
+ghost use Rattle.srs_path.specs.declared.outcomes.Cause.TheVariants.{Memory};
 ghost use Rattle.srs_tree.specs.Snapshots.{tree_of};
 ghost use Rattle.srs_tree.specs.Answers.{reply_of, kind_of};
 ghost use Rattle.srs_tool.specs.declared.commands.Command.TheVariants.{Bench};
@@ -107,23 +109,33 @@ fn counted_plan(alloc: Global, vertices: &[Vertex]) -> Result<(Version, Counts),
     let limits = bench_limits();
     let _ = limits.wits();
     let (version, cert) = refine_polygon(alloc, &limits, vertices, cell)?;
-    if !is_planned(cert.events()) {
+    if lacks_memory(cert.events()) {
         return Err(NoMemory);
     }
     let nodes = count_nodes(&cert);
     Ok((version, nodes))
 }
 
-// Whether no cell was left for want of memory.
-fn is_planned(events: &Journal) -> bool
-    ensures { IsTrue result → HasNoMemory events.now }
+// Whether some cell was left for want of memory.
+fn lacks_memory(events: &Journal) -> bool
+    ensures { result ≡ false → HasNoMemory events.now }
 {
     for i in 0..events.len() {
-        if matches!(events.get(i).outcome.as_ref(), Outcome::Left(Cause::Memory)) {
-            return false;
+        if is_lack(&events.get(i).outcome) {
+            return true;
         }
     }
-    true
+    false
+}
+
+// Whether the outcome is that there was no memory for the cell.
+fn is_lack(outcome: &Outcome) -> bool
+    ensures { IsTrue result ↔ (outcome.now ≡ Left Memory) }
+{
+    match outcome {
+        Outcome::Left(Cause::Memory) => true,
+        _ => false,
+    }
 }
 
 // How many of the points have an answer of each kind.

@@ -1,4 +1,4 @@
-use Rattle.std.proofs.Common.{◌≡◌, ap, subst, ◌∙◌}
+use Rattle.std.proofs.Common.{◌≡◌, ap, subst, ◌∙◌, refl}
 use Rattle.srs_plane.specs.Polygons.{region_of}
 use Rattle.srs_plane.specs.Regions.{HasPoint}
 use Rattle.srs_path.specs.Views.{Budget, IsBudget}
@@ -24,5 +24,5 @@ returns c =
     c.count_nodes-nodes.ensures ∙ ap (λ (k : CertView). counts_of k.events) c.in_ok-version.ensures.certificate in
     let point : HasPoint R = subst HasPoint c.in_ok-cell.ensures c.region.ensures.has_point in
     let none : HasNoMemory (preorder_of v) =
-    subst HasNoMemory (c.events.ensures.events ∙ ap (λ (k : CertView). k.events) c.in_ok-version.ensures.certificate) (c.is_planned.ensures c.if-is_planned.true) in
+    subst HasNoMemory (c.events.ensures.events ∙ ap (λ (k : CertView). k.events) c.in_ok-version.ensures.certificate) (c.if-lacks_memory.ensures refl) in
     counted_plan_of R v nodes budget point refined none counted
