@@ -26,7 +26,7 @@ returns-in_default-clause-told g t c =
     let session = c.get-session.result.now in
     if_ok (IsOneMore c.crew_and_sessions-pass.result.1 _) (AreToldIn Root before after k (take c.args.n script)) c.with_one.result
     (λ all more. told_one_more Root before after k script c.args.n session c.crew_and_sessions-pass.result.1 _ all (omega (arith, c.if-n-eq0.false)) c.get-session.ensures more c.crew_and_sessions-pass.ensures.told
-        (inl (c.in_default.ensures.none, c.new-in_default.ensures)))
+    (inl (c.in_default.ensures.none, c.new-in_default.ensures)))
     c.with_one.ensures
 
 pub returns-clause-told : goal.returns-clause-told
@@ -47,16 +47,16 @@ returns-clause-told g t c =
     let b : Begins before start_one = subst (Begins before) (sym (ap (λ p. p.seen) c.split_pass-other.ensures.new)) (begins_refl before) in
     if_ok (IsOneMore told one) (AreToldIn Root before after k (take c.args.n script)) c.with_one-2.result
     (λ all more. told_one_more Root before after k script c.args.n session told one all (omega (arith, c.if-n-eq0.false)) c.get-session.ensures more
-        (if_ok (AreToldIn Root start end k (take (c.args.n - 1) script)) (AreToldIn Root before after k (take (c.args.n - 1) script)) told
-        (λ list. told_wider Root before start end after k (take (c.args.n - 1) script) list a c.join-first.ensures.first.1.0 c.join_pass.ensures.both.0) c.join-first.ensures.first.1.1)
-        (if_ok (IsPlayed Root start_one end_one c.in-Some.segment.now) (IsToldIn Root before after k session) one
-        (λ list played. inr (
-            c.in-Some.segment.now,
-            c.in-Some.ensures.some.0,
-            c.in-Some.ensures.some.1,
-            played_wider Root before start_one end_one after c.in-Some.segment.now list b c.join-first.ensures.second.1.0 c.join_pass.ensures.both.1 played,
-        ))
-        c.join-first.ensures.second.1.1))
+    (if_ok (AreToldIn Root start end k (take (c.args.n - 1) script)) (AreToldIn Root before after k (take (c.args.n - 1) script)) told
+    (λ list. told_wider Root before start end after k (take (c.args.n - 1) script) list a c.join-first.ensures.first.1.0 c.join_pass.ensures.both.0) c.join-first.ensures.first.1.1)
+    (if_ok (IsPlayed Root start_one end_one c.in-Some.segment.now) (IsToldIn Root before after k session) one
+    (λ list played. inr (
+      c.in-Some.segment.now,
+      c.in-Some.ensures.some.0,
+      c.in-Some.ensures.some.1,
+      played_wider Root before start_one end_one after c.in-Some.segment.now list b c.join-first.ensures.second.1.0 c.join_pass.ensures.both.1 played,
+    ))
+    c.join-first.ensures.second.1.1))
     c.with_one-2.ensures
 
 session_send : (g : given.Over) (κs : Lfts 15) → IsSync g.row.R → IsSync g.row.G → IsSend (lts.arg-9-1 g.row.R g.row.G g.R.laws g.G.laws g.R.Threads-dict g.R.Wait-dict g.G.Gate-dict κs)
