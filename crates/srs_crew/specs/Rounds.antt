@@ -3,10 +3,6 @@ use Rattle.std.specs.Prelude.{◌≡◌, ◌⊎◌, ℕ, ◌<◌, ◌≤◌, Lis
 use Rattle.std.specs.declared.option.Option.{Option}
 use Rattle.srs_plane.specs.Regions.{Area}
 use Rattle.srs_path.specs.declared.paths.Side.{Side}
-use Rattle.srs_path.specs.declared.outcomes.Outcome.{Outcome}
-use Rattle.srs_path.specs.declared.outcomes.Outcome.TheVariants.{Left}
-use Rattle.srs_path.specs.declared.outcomes.Cause.TheVariants.{Memory}
-use Rattle.srs_path.specs.Refinement.{Refines}
 use Rattle.srs_path.specs.declared.limits.Last.{Last}
 use Rattle.srs_path.specs.Views.{Budget, Entry}
 use Rattle.srs_turn.specs.Prefixes.{Begins}
@@ -98,10 +94,6 @@ MayStart terms job H = (L : Budget) → terms.plan ≡ Some L → IsPlanRound L 
 -- the round of the job is done
 abbrev pub IsJobDone : Terms → Job → History → History → Type 0
 IsJobDone terms job before after = IsRoundDone terms job.round before after
-
--- the outcome of the cell, or that there was no memory for it
-abbrev pub IsFoundOf : Area → Option Last → ℕ → Outcome → Type 0
-IsFoundOf R last w o = (o ≡ Left Memory) ⊎ Refines R last w o
 
 -- of the first i cells those on paths of length k have their events
 pub record AreDone (cells : List WaitingCell) (i k : ℕ) (seen : History) : Type 0 where

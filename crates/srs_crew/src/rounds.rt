@@ -86,7 +86,8 @@ fn beside<R: Threads + Wait + Sync, G: Gate>(
     ensures told { IfOk result
         (AreToldIn atlas.now.fixed.root pass.old.seen pass.new.seen job.now.round script.now) }
 {
-    let Ok((claims, seat)) = Claims::new(alloc, cells.len(), job.workers as u64) else {
+    let workers = at_work(job.workers, cells.len());
+    let Ok((claims, seat)) = Claims::new(alloc, cells.len(), workers as u64) else {
         return Err(NoMemory);
     };
     let first = atlas.split_pass(pass);
@@ -96,7 +97,7 @@ fn beside<R: Threads + Wait + Sync, G: Gate>(
         last: job.last,
         claims,
         round: job.round,
-        workers: job.workers,
+        workers,
     };
     let (back, told) = crew_and_sessions(
         rt,
@@ -110,6 +111,18 @@ fn beside<R: Threads + Wait + Sync, G: Gate>(
     );
     atlas.join_pass(pass, back);
     told
+}
+
+// How many of the workers are started: no more than there are cells, and at least one.
+fn at_work(workers: u32, cells: u64) -> u32
+    requires { 1 ≤ workers }
+    ensures { (1 ≤ result) × (result ≤ workers) }
+{
+    if cells < workers as u64 {
+        (cells as u32).max(1)
+    } else {
+        workers
+    }
 }
 
 // Settles the cells of the round that still wait. An `Err` is want of memory.

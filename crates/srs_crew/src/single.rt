@@ -1,15 +1,14 @@
 // One cell.
-ghost use Rattle.std.specs.Prelude.{◌≡◌, ◌≤◌, IfOk, OnOk, IsSome};
+ghost use Rattle.std.specs.Prelude.{OnOk, IsSome};
 ghost use Rattle.srs_turn.specs.Prefixes.{Begins};
 ghost use Rattle.srs_turn.specs.Passes.{IsPassOf};
 ghost use Rattle.srs_tree.specs.Tree.{outcome_at};
 ghost use Rattle.srs_atlas.specs.Books.{IsLawful};
-ghost use Rattle.srs_crew.specs.Rounds.{IsWork, IsFoundOf};
+ghost use Rattle.srs_crew.specs.Rounds.{IsWork};
 
 use srs_atlas::{Atlas, AtlasPass, Commit};
-use srs_cell::Cell;
 use srs_num::NoMemory;
-use srs_path::{Finding, Last};
+use srs_path::Last;
 use srs_refine::Refiner;
 use srs_session::Gate;
 use srs_tree::Pending;
@@ -38,7 +37,7 @@ pub(crate) fn settle<R: Wait, G: Gate>(
     ensures lawful { IsLawful atlas.now.fixed pass.new.seen }
     ensures done { OnOk result (IsSome (outcome_at pass.new.seen cell.now.path)) }
 {
-    let found = found(alloc, refiner, &cell.cell, last, atlas.w())?;
+    let found = refiner.refine_or_leave(alloc, &cell.cell, last, atlas.w())?;
     gate.turn(rt, who, piece);
     match atlas.commit(rt, alloc, pass, cell.path, found) {
         Commit::Done(_) => Ok(()),
@@ -46,27 +45,5 @@ pub(crate) fn settle<R: Wait, G: Gate>(
         Commit::NoMemory(_) => Err(NoMemory),
         Commit::NotThere(_) => unreachable!(),
         Commit::OtherCell(_) => unreachable!(),
-    }
-}
-
-// The outcome of the cell, or that there was no memory for it. The region is copied first, so an
-// `Err` is want of memory for that alone.
-fn found(
-    alloc: Global,
-    refiner: &mut Refiner,
-    cell: &Cell,
-    last: Option<Last>,
-    w: u32,
-) -> Result<Finding, NoMemory>
-    requires some { 1 ≤ w }
-    requires few { w ≤ 16384 }
-    ensures region { IfOk result (λ f. f.region ≡ cell.now) }
-    ensures w { IfOk result (λ f. f.w ≡ w) }
-    ensures outcome { IfOk result (λ f. IsFoundOf cell.now last w f.outcome) }
-{
-    let region = cell.region().copy(alloc)?;
-    match refiner.refine(alloc, cell, last, w) {
-        Ok(finding) => Ok(finding),
-        Err(NoMemory) => Ok(Finding::unfound(region, w)),
     }
 }

@@ -1,5 +1,5 @@
 // Workers, who draw cells and settle them.
-ghost use Rattle.std.specs.Prelude.{◌+◌, ◌-◌, ◌≤◌};
+ghost use Rattle.std.specs.Prelude.{◌+◌, ◌-◌, ◌<◌, ◌≤◌, length};
 ghost use Rattle.std.specs.Thread.{IsSync};
 ghost use Rattle.srs_crew.specs.Rounds.{MayWork, HasWorked};
 
@@ -27,27 +27,42 @@ pub(crate) struct Shift {
 }
 
 #[tactic(auto, using(srs_turn::proofs::PrefixLemmas::begins_refl))]
-// A worker draws cells until none is left or there is no memory, and settles them.
+// A worker draws cells until none is left or there is no memory, and settles them. It takes room
+// for that only once it has drawn one.
 fn work<R: Wait, G: Gate>(
     rt: &R,
     atlas: &Atlas,
     shift: &Shift,
     pass: AtlasPass,
-    seat: ClaimSeat,
+    mut seat: ClaimSeat,
     gate: &G,
     who: u32,
 ) -> (AtlasPass, ClaimSeat)
     requires work { MayWork atlas.now shift.now pass seat }
     ensures { HasWorked atlas.now shift.now pass.seen result.0 result.1 }
 {
+    let Some(first) = shift.claims.draw(&mut seat) else {
+        return (pass, seat);
+    };
     match Refiner::new(shift.alloc, atlas.w()) {
-        Ok(mut refiner) => draw_all(rt, atlas, shift, pass, seat, &mut refiner, gate, who),
+        Ok(mut refiner) => settle_drawn(
+            rt,
+            atlas,
+            shift,
+            pass,
+            seat,
+            &mut refiner,
+            gate,
+            who,
+            first,
+        ),
         Err(_) => (pass, seat),
     }
 }
 
-// Draws cells until none is left or there is no memory, and settles them.
-fn draw_all<R: Wait, G: Gate>(
+// Settles the cell at the place that was drawn, and then draws more, until none is left or there is
+// no memory.
+fn settle_drawn<R: Wait, G: Gate>(
     rt: &R,
     atlas: &Atlas,
     shift: &Shift,
@@ -56,15 +71,15 @@ fn draw_all<R: Wait, G: Gate>(
     refiner: &mut Refiner,
     gate: &G,
     who: u32,
+    first: u64,
 ) -> (AtlasPass, ClaimSeat)
     requires work { MayWork atlas.now shift.now pass seat }
+    requires there { first < length shift.now.cells }
     ensures { HasWorked atlas.now shift.now pass.seen result.0 result.1 }
 {
+    let mut drawn = first;
     for _ in rt.forever() {
-        let Some(i) = shift.claims.draw(&mut seat) else {
-            return (pass, seat);
-        };
-        let cell = shift.cells.get(i);
+        let cell = shift.cells.get(drawn);
         let settled = settle(
             rt,
             shift.alloc,
@@ -75,10 +90,14 @@ fn draw_all<R: Wait, G: Gate>(
             shift.last,
             gate,
             who,
-            i,
+            drawn,
         );
         if settled.is_err() {
             return (pass, seat);
+        }
+        match shift.claims.draw(&mut seat) {
+            Some(next) => drawn = next,
+            None => return (pass, seat),
         }
     }
     unreachable!()

@@ -1,10 +1,11 @@
 -- Sums of points.
-use Rattle.std.proofs.Common.{◌≡◌, ℕ, ◌+◌, ◌<◌, ◌≤◌, length, take, take_all, get_or, List, [], ◌∷◌, ◌++◌, ℤ, pos, ◌+ℤ◌, ◌≤ℤ◌, refl, sym, ap, ◌∙◌, arith}
+use Rattle.std.proofs.Common.{◌≡◌, ℕ, ◌+◌, ◌-◌, ◌^◌, ◌<◌, ◌≤◌, FitsSigned, lit<, length, take, take_all, get_or, List, [], ◌∷◌, ◌++◌, ℤ, pos, ◌+ℤ◌, ◌≤ℤ◌, refl, sym, ap, ◌∙◌, arith}
+use Rattle.std.specs.Int.{w128}
 use Rattle.std.proofs.lemmas.List.{take_more}
 use Rattle.srs_num.specs.Points.{Point, IsPointWithin}
 use Rattle.srs_num.specs.Lines.{plus, sum_of}
 use Rattle.srs_num.proofs.Linear.{linear}
-use Rattle.srs_num.proofs.Ranges.{within_sum}
+use Rattle.srs_num.proofs.Ranges.{within_sum, small_fits}
 use Rattle.srs_num.proofs.Crossings.{point_at}
 
 same : (p q d x y z : ℤ) → p ≡ x → q ≡ y → d ≡ z → point_at p q d ≡ point_at x y z
@@ -51,6 +52,19 @@ plus_sized m n u w h k = record {
   where
     deep : (a b : ℤ) → pos 1 ≤ℤ a → pos 1 ≤ℤ b → pos 1 ≤ℤ (a +ℤ b)
     deep a b h k = omega (arith, linear)
+
+-- the numbers of a corner, in 128 bits
+pub record CornerFits (u : Point) : Type 0 where
+  pub p : FitsSigned w128 u.p
+  pub q : FitsSigned w128 u.q
+  pub d : FitsSigned w128 u.d
+
+pub corner_fits : (u : Point) → IsPointWithin (2 ^ 84 - 1) u → CornerFits u
+corner_fits u within = record {
+  p = small_fits w128 u.p (2 ^ 84 - 1) within.p_range (lit< tt);
+  q = small_fits w128 u.q (2 ^ 84 - 1) within.q_range (lit< tt);
+  d = small_fits w128 u.d (2 ^ 84 - 1) within.d_range (lit< tt);
+}
 
 -- what is known of the sum of two points holds of its three numbers
 pub plus_parts : (m : ℕ) (u w : Point) → IsPointWithin m (plus u w) → IsPointWithin m (point_at (u.p +ℤ w.p) (u.q +ℤ w.q) (u.d +ℤ w.d))

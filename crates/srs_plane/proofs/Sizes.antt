@@ -1,7 +1,7 @@
 -- The numbers of vertices are small, and so are the numbers of their lines.
 use Rattle.std.proofs.Common.{◌≡◌, ◌^◌, ℤ, pos, neg_ℤ, ◌+ℤ◌, ◌-ℤ◌, ◌*ℤ◌, ◌≤ℤ◌, FitsSigned, w64, arith, lit<, lit≤}
 use Rattle.std.proofs.lemmas.Int.{ints}
-use Rattle.srs_num.specs.Points.{Point, LinearForm, IsWithin, IsPtSized}
+use Rattle.srs_num.specs.Points.{Point, LinearForm, IsFormSized, IsWithin, IsPtSized}
 use Rattle.srs_num.specs.Lines.{edge_form}
 use Rattle.srs_num.proofs.Ranges.{within_product, within_sum, within_difference, within_more, small_fits}
 use Rattle.srs_plane.specs.declared.polygons.Vertex.{Vertex}
@@ -72,6 +72,12 @@ dot_fits a b c p q d ha hb hc hp hq hd =
       two = small_fits w64 (a *ℤ p +ℤ b *ℤ q) _ xy (lit< tt);
       all = small_fits w64 (a *ℤ p +ℤ b *ℤ q +ℤ c *ℤ d) _ (within_sum (a *ℤ p +ℤ b *ℤ q) (c *ℤ d) _ _ xy z) (lit< tt);
     }
+
+-- those of a form and a vertex
+pub dot_of : (f : LinearForm) (v : Vertex) → IsFormSized f → IsPlaced v → DotFits f.a f.b f.c v.p v.q v.d
+dot_of f v sized placed =
+    let near = small v placed in
+    dot_fits f.a f.b f.c v.p v.q v.d sized.a_range sized.b_range sized.c_range near.p_range near.q_range near.d_range
 
 -- a difference of two products, in 64 bits
 pub record MinorFits (a b c d : ℤ) : Type 0 where

@@ -1,43 +1,30 @@
-use Rattle.std.proofs.Common.{FitsSigned, ◌+ℤ◌, ◌-◌, ◌^◌, lit<}
-use Rattle.std.specs.Int.{w128}
-use Rattle.std.proofs.lemmas.Int.{to_z-of_z}
+-- The sums fit in 128 bits.
+use Rattle.std.proofs.Common.{◌-◌, ◌^◌}
+use Rattle.std.proofs.Math.Facts.{to_z-of_z}
 use Rattle.srs_num.specs.Points.{IsPointWithin}
 use Rattle.srs_num.specs.Lines.{plus}
-use Rattle.srs_num.proofs.Ranges.{small_fits}
 use Rattle.srs_num.proofs.Crossings.{point_at}
-use Rattle.srs_num.proofs.Sums.{plus_parts, plus_is}
+use Rattle.srs_num.proofs.Sums.{corner_fits, plus_parts, plus_is}
 use Rattle.srs_num.proofs.points.Corner.plus.Goals as goal
 
 pub invariant_of-result : goal.invariant_of-result
 invariant_of-result c =
-    let u = c.self.inside in
-    let w = c.other.inside in
-    let h : IsPointWithin (2 ^ 84 - 1) (plus (point_at u.p u.q u.d) (point_at w.p w.q w.d)) = rw (c.self.view_is, c.other.view_is) c.requires in
-    let s = plus_parts (2 ^ 84 - 1) (point_at u.p u.q u.d) (point_at w.p w.q w.d) h in
-    let up : FitsSigned w128 u.p = small_fits w128 u.p (2 ^ 84 - 1) c.self.invariant.p_range (lit< tt) in
-    let uq : FitsSigned w128 u.q = small_fits w128 u.q (2 ^ 84 - 1) c.self.invariant.q_range (lit< tt) in
-    let ud : FitsSigned w128 u.d = small_fits w128 u.d (2 ^ 84 - 1) c.self.invariant.d_range (lit< tt) in
-    let wp : FitsSigned w128 w.p = small_fits w128 w.p (2 ^ 84 - 1) c.other.invariant.p_range (lit< tt) in
-    let wq : FitsSigned w128 w.q = small_fits w128 w.q (2 ^ 84 - 1) c.other.invariant.q_range (lit< tt) in
-    let wd : FitsSigned w128 w.d = small_fits w128 w.d (2 ^ 84 - 1) c.other.invariant.d_range (lit< tt) in
-    let sp : FitsSigned w128 (u.p +ℤ w.p) = small_fits w128 _ (2 ^ 84 - 1) s.p_range (lit< tt) in
-    let sq : FitsSigned w128 (u.q +ℤ w.q) = small_fits w128 _ (2 ^ 84 - 1) s.q_range (lit< tt) in
-    let sd : FitsSigned w128 (u.d +ℤ w.d) = small_fits w128 _ (2 ^ 84 - 1) s.d_range (lit< tt) in
-    simp to_z-of_z s
+    let x = point_at c.self.inside.p c.self.inside.q c.self.inside.d in
+    let y = point_at c.other.inside.p c.other.inside.q c.other.inside.d in
+    let h : IsPointWithin (2 ^ 84 - 1) (plus x y) = rw (c.self.view_is, c.other.view_is) c.requires in
+    let sum = plus_parts (2 ^ 84 - 1) x y h in
+    let u = corner_fits x c.self.invariant in
+    let w = corner_fits y c.other.invariant in
+    let s = corner_fits _ sum in
+    simp (to_z-of_z u.p, to_z-of_z u.q, to_z-of_z u.d, to_z-of_z w.p, to_z-of_z w.q, to_z-of_z w.d, to_z-of_z s.p, to_z-of_z s.q, to_z-of_z s.d) sum
 
 pub returns : goal.returns
 returns c =
-    let u = c.self.inside in
-    let w = c.other.inside in
-    let h : IsPointWithin (2 ^ 84 - 1) (plus (point_at u.p u.q u.d) (point_at w.p w.q w.d)) = rw (c.self.view_is, c.other.view_is) c.requires in
-    let s = plus_parts (2 ^ 84 - 1) (point_at u.p u.q u.d) (point_at w.p w.q w.d) h in
-    let up : FitsSigned w128 u.p = small_fits w128 u.p (2 ^ 84 - 1) c.self.invariant.p_range (lit< tt) in
-    let uq : FitsSigned w128 u.q = small_fits w128 u.q (2 ^ 84 - 1) c.self.invariant.q_range (lit< tt) in
-    let ud : FitsSigned w128 u.d = small_fits w128 u.d (2 ^ 84 - 1) c.self.invariant.d_range (lit< tt) in
-    let wp : FitsSigned w128 w.p = small_fits w128 w.p (2 ^ 84 - 1) c.other.invariant.p_range (lit< tt) in
-    let wq : FitsSigned w128 w.q = small_fits w128 w.q (2 ^ 84 - 1) c.other.invariant.q_range (lit< tt) in
-    let wd : FitsSigned w128 w.d = small_fits w128 w.d (2 ^ 84 - 1) c.other.invariant.d_range (lit< tt) in
-    let sp : FitsSigned w128 (u.p +ℤ w.p) = small_fits w128 _ (2 ^ 84 - 1) s.p_range (lit< tt) in
-    let sq : FitsSigned w128 (u.q +ℤ w.q) = small_fits w128 _ (2 ^ 84 - 1) s.q_range (lit< tt) in
-    let sd : FitsSigned w128 (u.d +ℤ w.d) = small_fits w128 _ (2 ^ 84 - 1) s.d_range (lit< tt) in
-    rw (← c.self.view_is, ← c.other.view_is) (simp to_z-of_z (plus_is (point_at u.p u.q u.d) (point_at w.p w.q w.d)))
+    let x = point_at c.self.inside.p c.self.inside.q c.self.inside.d in
+    let y = point_at c.other.inside.p c.other.inside.q c.other.inside.d in
+    let h : IsPointWithin (2 ^ 84 - 1) (plus x y) = rw (c.self.view_is, c.other.view_is) c.requires in
+    let u = corner_fits x c.self.invariant in
+    let w = corner_fits y c.other.invariant in
+    let s = corner_fits _ (plus_parts (2 ^ 84 - 1) x y h) in
+    rw (← c.self.view_is, ← c.other.view_is)
+        (simp (to_z-of_z u.p, to_z-of_z u.q, to_z-of_z u.d, to_z-of_z w.p, to_z-of_z w.q, to_z-of_z w.d, to_z-of_z s.p, to_z-of_z s.q, to_z-of_z s.d) (plus_is x y))

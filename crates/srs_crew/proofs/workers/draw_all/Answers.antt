@@ -1,6 +1,0 @@
--- Each cell is one of the round, at whatever was seen since.
-use Rattle.srs_crew.proofs.Working.{work_at}
-use Rattle.srs_crew.proofs.workers.draw_all.Goals as goal
-
-pub settle-settled-requires-clause-work : goal.settle-settled-requires-clause-work
-settle-settled-requires-clause-work g c κs within = work_at _ _ _ _ c.requires.work.work _ c.loop.invariant.seen _ _ c.get-cell.ensures

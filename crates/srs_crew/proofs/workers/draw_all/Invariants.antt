@@ -1,5 +1,0 @@
-use Rattle.srs_crew.specs.Rounds.{HasWorked}
-use Rattle.srs_crew.proofs.workers.draw_all.Given as goal
-
-abbrev pub invariant-loop : goal.invariant-loop
-invariant-loop g l = HasWorked l.atlas l.shift l.initial.pass.seen l.pass l.seat
