@@ -1,8 +1,7 @@
 -- The nodes of a whole history in preorder are its cells, each once.
-use Rattle.std.proofs.Common.{◌≡◌, ◌≢◌, ℕ, zero, suc, ◌+◌, ◌<◌, ◌≤◌, Bool, true, false, cond, List, [], ◌∷◌, ◌++◌, map, length, take, drop, get_or, slice_get, take-append-drop, refl, sym, ap, ap₂, subst, ◌∙◌, arith}
+use Rattle.std.proofs.Common.{◌≡◌, ◌≢◌, ℕ, zero, suc, ◌+◌, ◌<◌, ◌≤◌, Bool, true, false, cond, List, [], ◌∷◌, ◌++◌, map, length, take, drop, get_or, slice_get, take-append-drop, refl, sym, ap, subst, ◌∙◌, arith}
 use Rattle.std.specs.Prelude.{◌==◌, nat_le, count_by, Contains}
 use Rattle.std.specs.List.{AllPairs}
-use Rattle.std.specs.FinMap as finite
 use Rattle.std.proofs.lemmas.Option.{none-some, slice_get-map, slice_get_within, slice_get-get_or, get_or_from_slice_get}
 use Rattle.std.proofs.lemmas.List.{take_more, take_all, map-append, length-map, get_or-map, get_or-take, length-take-le}
 use Rattle.std.proofs.lemmas.List.Elements.{Contains-get_or}
@@ -21,7 +20,7 @@ use Rattle.srs_tree.specs.Tree.{History, Tree, path_eq, outcome_at}
 use Rattle.srs_tree.specs.Legality.{IsLegal}
 use Rattle.srs_tree.specs.Rounds.{cells_of, upto, row_of, IsWhole}
 use Rattle.srs_tree.specs.Snapshots.{Snapshot, StandsFor}
-use Rattle.srs_tree.specs.Preorder.{event_of, preorder_of}
+use Rattle.srs_tree.specs.Preorder.{preorder_of}
 use Rattle.srs_tree.specs.WholeTrees.{ListsWholeTree}
 use Rattle.srs_tree.proofs.HistoryLemmas.{path_eq_same}
 use Rattle.srs_tree.proofs.TreeLemmas.{event_of as event_at, cell_of_outcome}
@@ -31,21 +30,15 @@ use Rattle.srs_tree.proofs.Bounded.{count_all}
 use Rattle.srs_tree.proofs.PartitionAll.{IsLegal-first}
 use Rattle.srs_tree.proofs.PlannedSteps.{outcome_of_event}
 use Rattle.srs_tree.proofs.PlannedWhole.{some_is}
-use Rattle.srs_tree.proofs.Sorted.{Pair, before}
-use Rattle.srs_tree.proofs.StandsLemmas.{ties}
+use Rattle.srs_tree.proofs.Preorders.{preorder_at}
 use Rattle.srs_check.specs.Budgets.{nodes_upto, nodes_at}
 use Rattle.srs_check.specs.Faults.{is_inside, is_outside, is_cut, is_left, counts_of}
 use Rattle.srs_cert.proofs.Descents.{outcome_here}
 use Rattle.srs_cert.proofs.Preordered.{walked_all, walked_takes}
 
--- entries as events have the outcomes that are found at their paths
-events_found : (es : List Pair) (p : List Side) → outcome_at (map event_of es) p ≡ finite.find before p es
-events_found [] p = refl
-events_found (e ∷ es) p = ap₂ (λ (b : Bool) (x : Option Outcome). cond b (Some e.1) x) (sym (ties p e.0)) (events_found es p)
-
 -- the preorder of a snapshot has the outcomes of the history that it stands for
 pub preorder_same : (Root : Area) (H : History) (v : Snapshot) → StandsFor Root H v → (p : List Side) → outcome_at (preorder_of v) p ≡ outcome_at H p
-preorder_same Root H v stands p = events_found (finite.entries v.entries) p ∙ sym (finite.get-entries v.entries p) ∙ stands.entries p
+preorder_same Root H v stands p = preorder_at v p ∙ stands.entries p
 
 abbrev path_of : Entry → List Side
 path_of e = e.path

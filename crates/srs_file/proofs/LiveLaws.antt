@@ -2,7 +2,6 @@
 -- certificate.
 use Rattle.std.proofs.Common.{◌≡◌, ◌≢◌, ◌≤◌, ◌<◌, ◌+◌, ◌++◌, ℕ, suc, pos, Bool, true, false, cond, List, [], ◌∷◌, map, length, flat_map, codes, All, Some, rules, refl, sym, ap, ap₂, subst, ◌∙◌, arith, append_assoc, append-nil}
 use Rattle.std.specs.Prelude.{Contains}
-use Rattle.std.specs.Cmp.Lexicographic.{slice_cmp}
 use Rattle.std.specs.FinMap as finite
 use Rattle.std.specs.List.{enumerate_from}
 use Rattle.std.specs.declared.option.Option.{Option}
@@ -17,10 +16,10 @@ use Rattle.srs_path.specs.declared.outcomes.Outcome.TheVariants.{Inside, Outside
 use Rattle.srs_path.specs.Views.{Budget, Entry}
 use Rattle.srs_tree.specs.Tree.{History, path_eq, outcome_at}
 use Rattle.srs_tree.specs.Legality.{IsLegal}
-use Rattle.srs_tree.specs.Snapshots.{side_cmp, Snapshot, tree_of}
+use Rattle.srs_tree.specs.Snapshots.{Snapshot}
 use Rattle.srs_tree.specs.Preorder.{event_of, preorder_of}
 use Rattle.srs_tree.specs.declared.queries.Said.{Said}
-use Rattle.srs_tree.proofs.StandsLemmas.{ties}
+use Rattle.srs_tree.proofs.Preorders.{preorder_at}
 use Rattle.srs_tree.proofs.PlannedSteps.{outcome_of_event}
 use Rattle.srs_text.specs.Line.{HasNoLf}
 use Rattle.srs_line.specs.Machine.{lines_text}
@@ -171,14 +170,6 @@ joined_events : (H : History) → lines_text (map event_line H) ≡ flat_map eve
 joined_events [] = refl
 joined_events (e ∷ H) = ap (λ x. event_text e ++ x) (joined_events H)
 
--- the tree of entries in their order
-at_entries : (es : List (List Side × Outcome)) (p : List Side) → outcome_at (map event_of es) p ≡ finite.find (slice_cmp side_cmp) p es
-at_entries [] p = refl
-at_entries (e ∷ es) p = ap₂ (λ (b : Bool) (x : Option Outcome). cond b (Some e.1) x) (sym (ties p e.0)) (at_entries es p)
-
-at_preorder : (v : Snapshot) (p : List Side) → outcome_at (preorder_of v) p ≡ tree_of v p
-at_preorder v p = at_entries (finite.entries v.entries) p ∙ sym (finite.get-entries v.entries p)
-
 -- an outcome of a history is in the range that all of them are in
 range_at : (H : History) (p : List Side) (o : Outcome) → All (λ (e : Entry). IsInRange e.outcome) H → outcome_at H p ≡ Some o → IsInRange o
 range_at [] p o all at = absurd (cc)
@@ -311,7 +302,7 @@ module _ (vs : List Vertex) (b : Budget) (H : History) (S : List (List Said)) (t
   cert = cert_of vs b t.snapshot
 
   pub tree_is : (p : List Side) → outcome_at cert.events p ≡ outcome_at H p
-  tree_is p = at_preorder t.snapshot p ∙ t.stands.entries p
+  tree_is p = preorder_at t.snapshot p ∙ t.stands.entries p
 
   pub has : Has (outcome_at cert.events) H
   has = has_all (outcome_at cert.events) H (λ e k. tree_is e.path ∙ outcome_of_event (region_of vs) b.wits H legal e k)

@@ -28,3 +28,4 @@ pub mod Meeting
 pub mod Clipping
 pub mod Crossing
 pub mod OpenCells
+pub mod Preorders
