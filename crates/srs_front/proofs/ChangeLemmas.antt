@@ -1,15 +1,15 @@
 -- What the three changes of a list, and one more slot, do to its links.
-use Rattle.std.proofs.Common.{◌≡◌, ◌≢◌, ℕ, ◌<◌, ◌≤◌, ◌+◌, ◌^◌, List, [], ◌∷◌, ◌++◌, length, map, get_or, set, refl, sym, ap, subst, ◌∙◌, arith}
+use Rattle.std.proofs.Common.{◌≡◌, ◌≢◌, ℕ, ◌<◌, ◌≤◌, ◌+◌, ◌^◌, List, [], ◌∷◌, ◌++◌, length, get_or, set, refl, sym, ap, subst, ◌∙◌, arith}
 use Rattle.std.specs.Prelude.{reverse}
 use Rattle.std.specs.List.{AllByRecursion}
 use Rattle.std.specs.declared.option.Option.{Option}
 use Rattle.std.specs.declared.option.Option.TheVariants.{Some, None}
-use Rattle.std.proofs.lemmas.List.{append-nil, append_assoc, map-append, length-append, length-map, length-set, get_or-set_same, get_or_append_left}
+use Rattle.std.proofs.lemmas.List.{append-nil, append_assoc, map-append, length-append, length-set, get_or-set_same, get_or_append_left}
 use Rattle.srs_front.specs.declared.links.TheConstants.{NO_SLOT}
-use Rattle.srs_front.specs.Numbers.{Numbers, with_slot, behind, ahead, IsEnd, AreJoined, joined, spliced_out, spliced_in, AreInRow}
-use Rattle.srs_front.specs.Walks.{item_at, HasSlot, without_slot, first_slot, slot_behind, slots_of, list_of, some_slot, AreSlots, DoSlotsDiffer, AreOf}
+use Rattle.srs_front.specs.Numbers.{Numbers, with_slot, behind, ahead, IsEnd, joined, spliced_out, spliced_in, AreInRow}
+use Rattle.srs_front.specs.Walks.{item_at, without_slot, slot_behind, slots_of, some_slot, AreSlots, DoSlotsDiffer, AreOf}
 use Rattle.srs_front.proofs.RowLemmas.{Lacks, slots_apart, slot_out, slot_in, lacks_parts, lacks_both, rows_apart, end_ahead, end_behind, end_stays, nexts_stay, prevs_stay, row_without, row_push, row_first}
-use Rattle.srs_front.proofs.WalkLemmas.{Pairs, Stand, own_behind, own_ahead, below_none, ends_by, end_none, kinds, end_of, ends, end_last, stand_parts, stand_both, stand_stays, slots-middle, Stands, stands, without_middle, item_at-lacking, differ, ahead_is, behind_is, slot_behind-middle, slot_ahead-middle}
+use Rattle.srs_front.proofs.WalkLemmas.{Pairs, Stand, own_behind, own_ahead, below_none, ends_by, end_none, kinds, end_of, ends, end_last, stand_parts, stand_both, stand_stays, slots-middle, without_middle, item_at-lacking, differ, ahead_is, behind_is, slot_behind-middle, slot_ahead-middle}
 
 module _ {T : Type 0} (n : Numbers) (items : List (Option T)) (free : List ℕ) (room : ℕ) (small : length items < 2 ^ 63) where
   -- a list in which the slot stands

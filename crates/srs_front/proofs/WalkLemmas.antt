@@ -1,16 +1,17 @@
 -- What the links of a list walk, and what a change of the links does to the list.
-use Rattle.std.proofs.Common.{◌≡◌, ◌≢◌, ℕ, zero, suc, ◌<◌, ◌≤◌, ◌+◌, ◌^◌, Bool, true, false, not, cond, eqb, List, [], ◌∷◌, ◌++◌, length, map, get_or, set, refl, sym, ap, ap₂, subst, ◌∙◌, arith}
-use Rattle.std.specs.Prelude.{reverse, slice_index, IsSome}
-use Rattle.std.specs.List.{AllByRecursion, filter}
+use Rattle.std.proofs.Common.{◌≡◌, ◌≢◌, ℕ, zero, suc, ◌<◌, ◌≤◌, ◌^◌, Bool, true, false, not, cond, eqb, List, [], ◌∷◌, ◌++◌, length, get_or, set, refl, sym, ap, ap₂, subst, ◌∙◌, arith}
+use Rattle.std.specs.Prelude.{reverse, slice_index, IsSome, IfSome, ◌⊎◌}
+use Rattle.std.proofs.Common.{inl, inr}
+use Rattle.std.specs.List.{AllByRecursion}
 use Rattle.std.specs.declared.option.Option.{Option}
 use Rattle.std.specs.declared.option.Option.TheVariants.{Some, None}
-use Rattle.std.proofs.lemmas.List.{append-nil, append_assoc, map-append, reverse-append, length-append, length-map, length-set, get_or_past, get_or-set_same, get_or-set_other, get_or_append_left}
+use Rattle.std.proofs.lemmas.List.{append_assoc, map-append, reverse-append, length-append, length-map, get_or_past, get_or-set_other}
 use Rattle.std.proofs.lemmas.List.Elements.{filter-append}
-use Rattle.std.proofs.lemmas.Bool.{eqb-true, eqb-false, eq-eqb, ne_eqb}
+use Rattle.std.proofs.lemmas.Bool.{eqb-true, eq-eqb, ne_eqb}
 use Rattle.srs_front.specs.declared.links.TheConstants.{NO_SLOT}
-use Rattle.srs_front.specs.Numbers.{Numbers, with_slot, place_behind, place_ahead, behind, ahead, IsEnd, AreJoined, spliced_out, spliced_in, AreInRow}
+use Rattle.srs_front.specs.Numbers.{Numbers, behind, ahead, IsEnd, AreInRow}
 use Rattle.srs_front.specs.Walks.{item_at, HasSlot, without_slot, first_slot, slot_behind, slots_of, from_slot, walked, list_of, some_slot, AreSlots, DoSlotsDiffer, AreOf}
-use Rattle.srs_front.proofs.RowLemmas.{Lacks, none_apart, slots_apart, slot_out, slot_in, lacks_parts, lacks_both, rows_apart, end_ahead, end_behind, row_without, row_push, row_first}
+use Rattle.srs_front.proofs.RowLemmas.{Lacks, slots_apart, lacks_both, end_ahead, end_behind}
 
 -- a slot that isn't none has its own number
 pub own_behind : (n : Numbers) (slot : ℕ) → slot ≢ NO_SLOT → behind n slot ≡ slice_index n.next slot
@@ -215,3 +216,50 @@ module _ {T : Type 0} where
   slot_ahead-middle before slot item after l =
       ap (λ (xs : Pairs T). slot_behind xs slot) (reverse-middle before (slot, item) after)
       ∙ slot_behind-middle (reverse after) slot item (reverse before) (lacks-reverse slot after l)
+
+  -- the list has the slots that are found in it
+  pub has_first : (list : Pairs T) → IfSome (first_slot list) (HasSlot list)
+  has_first [] = tt
+  has_first (p ∷ list) = subst (λ (b : Bool). IsSome (cond b (Some p.1) (item_at list p.0))) (sym (eq-eqb p.0 p.0 refl)) refl
+
+  has_more : (p : ℕ × T) (list : Pairs T) (o : Option ℕ) → IfSome o (HasSlot list) → IfSome o (HasSlot (p ∷ list))
+  has_more p list None h = tt
+  has_more p list (Some slot) h =
+      elim (eqb p.0 slot) as (λ b. IsSome (cond b (Some p.1) (item_at list slot))) [ true ↦ refl | false ↦ h ]
+
+  pub has_behind : (list : Pairs T) (slot : ℕ) → IfSome (slot_behind list slot) (HasSlot list)
+  has_behind [] slot = tt
+  has_behind (p ∷ list) slot =
+      elim (eqb p.0 slot) as (λ b. IfSome (cond b (first_slot list) (slot_behind list slot)) (HasSlot (p ∷ list))) [
+        | true ↦ has_more p list (first_slot list) (has_first list)
+        | false ↦ has_more p list (slot_behind list slot) (has_behind list slot)
+      ]
+
+  has_split : (front back : Pairs T) (slot : ℕ) → HasSlot (front ++ back) slot → HasSlot front slot ⊎ HasSlot back slot
+  has_split [] back slot h = inr h
+  has_split (p ∷ front) back slot h =
+      (elim (eqb p.0 slot) as (λ b. IsSome (cond b (Some p.1) (item_at (front ++ back) slot)) → IsSome (cond b (Some p.1) (item_at front slot)) ⊎ HasSlot back slot) [
+        | true ↦ λ _. inl refl
+        | false ↦ has_split front back slot
+      ]) h
+
+  has_reversed : (list : Pairs T) (slot : ℕ) → HasSlot (reverse list) slot → HasSlot list slot
+  has_reversed [] slot h = h
+  has_reversed (p ∷ list) slot h =
+      elim (has_split (reverse list) (p ∷ []) slot (subst (λ (xs : Pairs T). HasSlot xs slot) (reverse-cons p list) h)) [
+        | inl before ↦ has_more p list (Some slot) (has_reversed list slot before)
+        | inr last ↦ (elim (eqb p.0 slot) as (λ b. IsSome (cond b (Some p.1) None) → IsSome (cond b (Some p.1) (item_at list slot))) [
+            | true ↦ λ _. refl
+            | false ↦ λ none. absurd (let e : false ≡ true = none in cc)
+          ]) last
+      ]
+
+  has_any : (o : Option ℕ) (list : Pairs T) → IfSome o (HasSlot (reverse list)) → IfSome o (HasSlot list)
+  has_any None list h = tt
+  has_any (Some slot) list h = has_reversed list slot h
+
+  pub has_last : (list : Pairs T) → IfSome (first_slot (reverse list)) (HasSlot list)
+  has_last list = has_any (first_slot (reverse list)) list (has_first (reverse list))
+
+  pub has_ahead : (list : Pairs T) (slot : ℕ) → IfSome (slot_behind (reverse list) slot) (HasSlot list)
+  has_ahead list slot = has_any (slot_behind (reverse list) slot) list (has_behind (reverse list) slot)

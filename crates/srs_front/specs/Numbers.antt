@@ -1,5 +1,5 @@
 -- The numbers of links, and how slots are joined by them.
-use Rattle.std.specs.Prelude.{◌≡◌, ◌≤◌, ◌<◌, ◌+◌, ⊤, ℕ, List, [], ◌∷◌, ◌++◌, length, slice_index, slice_set, ◌==◌, if◌then◌else◌}
+use Rattle.std.specs.Prelude.{◌≡◌, ◌<◌, ⊤, ℕ, List, [], ◌∷◌, ◌++◌, length, slice_index, slice_set, ◌==◌, if◌then◌else◌}
 use Rattle.srs_front.specs.declared.links.LinkPlace.{LinkPlace}
 use Rattle.srs_front.specs.declared.links.LinkPlace.TheVariants.{Next, Prev, First, Final}
 use Rattle.srs_front.specs.declared.links.TheConstants.{NO_SLOT}

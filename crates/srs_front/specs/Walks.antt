@@ -1,5 +1,5 @@
 -- Lists of slots with their items, and the links that walk them.
-use Rattle.std.specs.Prelude.{◌≡◌, ◌≢◌, ◌≤◌, ◌<◌, ◌+◌, ⊤, ℕ, zero, suc, not, List, [], ◌∷◌, ◌++◌, length, map, filter, slice_get, get_or, slice_index, ◌==◌, if◌then◌else◌, Some, None, IsSome}
+use Rattle.std.specs.Prelude.{◌≡◌, ◌≢◌, ◌≤◌, ◌<◌, ◌+◌, ⊤, ℕ, zero, suc, not, List, [], ◌∷◌, ◌++◌, length, map, filter, get_or, slice_index, ◌==◌, if◌then◌else◌, Some, None, IsSome}
 use Rattle.std.specs.List.{AllByRecursion}
 use Rattle.std.specs.declared.option.Option.{Option}
 use Rattle.srs_front.specs.declared.links.TheConstants.{NO_SLOT}

@@ -1,5 +1,5 @@
 // A list of items that are linked by index.
-ghost use Rattle.std.specs.Prelude.{◌≡◌, ◌≤◌, ℕ, List, [], ◌∷◌, ◌++◌, reverse, vec_capacity, Some, None, IfOk, IfErr, OnErr};
+ghost use Rattle.std.specs.Prelude.{◌≡◌, ◌≤◌, ℕ, List, [], ◌∷◌, ◌++◌, reverse, vec_capacity, Some, None, IfSome, IfOk, IfErr, OnErr};
 ghost use Rattle.srs_front.specs.Walks.{item_at, HasSlot, without_slot, first_slot, slot_behind, DoSlotsDiffer, AreOf, some_slot, TakesFew};
 
 use crate::links::{Links, NO_SLOT};
@@ -95,14 +95,16 @@ impl<T: Drop> Front<T> {
 
     /// The slot of the first item; none exactly where there is no item.
     pub fn first(&self) -> Option<u64>
-        ensures { result ≡ first_slot self.now }
+        ensures slot { result ≡ first_slot self.now }
+        ensures held { IfSome result (HasSlot self.now) }
     {
         some_slot(self.links.behind(NO_SLOT))
     }
 
     /// The slot of the last item; none exactly where there is no item.
     pub fn last(&self) -> Option<u64>
-        ensures { result ≡ first_slot (reverse self.now) }
+        ensures slot { result ≡ first_slot (reverse self.now) }
+        ensures held { IfSome result (HasSlot self.now) }
     {
         some_slot(self.links.ahead(NO_SLOT))
     }
@@ -110,7 +112,9 @@ impl<T: Drop> Front<T> {
     /// The slot behind this one; none exactly where this is the last.
     pub fn next(&self, slot: u64) -> Option<u64>
         requires { HasSlot self.now slot }
-        ensures { result ≡ slot_behind self.now slot }
+        ensures slot { result ≡ slot_behind self.now slot }
+        ensures held { IfSome result (HasSlot self.now) }
+        ensures differ { DoSlotsDiffer self.now }
     {
         some_slot(self.links.behind(slot))
     }
@@ -118,7 +122,8 @@ impl<T: Drop> Front<T> {
     /// The slot ahead of this one, which is behind it in the list reversed; none exactly where this is the first.
     pub fn prev(&self, slot: u64) -> Option<u64>
         requires { HasSlot self.now slot }
-        ensures { result ≡ slot_behind (reverse self.now) slot }
+        ensures slot { result ≡ slot_behind (reverse self.now) slot }
+        ensures held { IfSome result (HasSlot self.now) }
     {
         some_slot(self.links.ahead(slot))
     }

@@ -1,6 +1,6 @@
 -- A slot that was free, or one more.
-use Rattle.std.proofs.Common.{◌≡◌, ◌∙◌, sym, ap, List, [], ◌∷◌, ◌++◌, None, arith}
-use Rattle.std.proofs.lemmas.List.{nil_from_length, append-nil}
+use Rattle.std.proofs.Common.{◌≡◌, ◌∙◌, ap, List, [], ◌∷◌, ◌++◌, None, arith}
+use Rattle.std.proofs.lemmas.List.{nil_from_length}
 use Rattle.srs_front.proofs.ChangeLemmas.{free_one}
 use Rattle.srs_front.proofs.HeldLemmas.{few_items}
 use Rattle.srs_front.proofs.front.free_slot.Goals as goal

@@ -1,5 +1,5 @@
 -- The item stands in its slot.
-use Rattle.std.proofs.Common.{◌≡◌, ◌∙◌, sym, get_or, Some, None, arith}
+use Rattle.std.proofs.Common.{◌∙◌, sym, None, arith}
 use Rattle.std.proofs.lemmas.List.{get_or_read}
 use Rattle.srs_front.specs.Walks.{list_of}
 use Rattle.srs_front.proofs.HeldLemmas.{few_items, held_lt, held_item, held_found, held_differ}
