@@ -1,5 +1,6 @@
 // Blocks of at most 64 items, and rows of at most 64 blocks.
-ghost use Rattle.std.specs.Prelude.{◌≡◌, ◌<◌, ◌≤◌, [], ◌∷◌, length, slice_get, get_or, Some, IfOk, OnOk, OnErr};
+ghost use Rattle.std.specs.Prelude.{◌≡◌, ◌<◌, ◌≤◌, [], ◌∷◌, length, slice_get, get_or, Some, IfOk};
+ghost use Rattle.std.specs.Prelude.{OnOk, OnErr};
 ghost use Rattle.srs_blocks.specs.Blocks.{written, block_at, written_below};
 
 use crate::share::{Share, Shared};
@@ -105,8 +106,8 @@ impl<T: Share + Drop> Shared<Few<T>> {
 }
 
 impl<T: Share + Drop> Row<T> {
-    // The item comes to the place `i` of the block at the place `block`, or is the first of a new one. An `Err` is want of
-    // memory.
+    // The item comes to the place `i` of the block at the place `block`, or is the first of a new
+    // one. An `Err` is want of memory.
     fn write_below(
         &mut self,
         alloc: Global,
@@ -131,7 +132,8 @@ impl<T: Share + Drop> Row<T> {
 }
 
 impl<T: Share + Drop> Shared<Row<T>> {
-    // As `Row::write_below`. Where the row has other owners, they keep it, and this one gets a row of its own.
+    // As `Row::write_below`. Where the row has other owners, they keep it, and this one gets a row
+    // of its own.
     pub(crate) fn write_below(
         &mut self,
         alloc: Global,

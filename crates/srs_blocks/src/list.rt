@@ -1,5 +1,6 @@
 // Lists of rows of blocks.
-ghost use Rattle.std.specs.Prelude.{◌≡◌, ◌+◌, ◌*◌, ◌^◌, ◌<◌, ◌≤◌, [], ◌∷◌, ◌++◌, length, take, slice_get, slice_set, Some, IfOk, OnOk, OnErr};
+ghost use Rattle.std.specs.Prelude.{◌≡◌, ◌+◌, ◌*◌, ◌^◌, ◌<◌, ◌≤◌, [], ◌∷◌, ◌++◌, length, take};
+ghost use Rattle.std.specs.Prelude.{slice_get, slice_set, Some, IfOk, OnOk, OnErr};
 ghost use Rattle.srs_blocks.specs.Blocks.{AreRows, block_at, written_in, IsWritable};
 
 use crate::few::{Few, MOST, Row};
@@ -11,8 +12,8 @@ use std::marker::Model;
 // The most items of a list: more than any memory holds.
 const LIMIT: usize = 1 << 48;
 
-/// At most 2^48 items, seen as the list of them. A copy shares all of them, and a change copies one block of at most 64 items
-/// and one row of at most 64 blocks, where others share these.
+/// At most 2^48 items, seen as the list of them. A copy shares all of them, and a change copies one
+/// block of at most 64 items and one row of at most 64 blocks, where others share these.
 #[derive(Drop)]
 pub struct BlockList<T> {
     rows: Vec<Shared<Row<T>>>,

@@ -1,5 +1,6 @@
 // Claims, and the seats that draw from them.
-ghost use Rattle.std.specs.Prelude.{◌≡◌, ◌+◌, ◌-◌, ◌^◌, ◌<◌, ◌≤◌, ◌++◌, [], ◌∷◌, true, false, IfOk, IfSome, IfNone};
+ghost use Rattle.std.specs.Prelude.{◌≡◌, ◌+◌, ◌-◌, ◌^◌, ◌<◌, ◌≤◌, ◌++◌, [], ◌∷◌, true, false, IfOk};
+ghost use Rattle.std.specs.Prelude.{IfSome, IfNone};
 ghost use Rattle.srs_claim.specs.Numbers.{times, AreDistinct, AreBelow};
 
 use crate::view::{Bounds, ClaimRule, Comparing, Drawing, View};
@@ -11,8 +12,8 @@ use std::marker::Model;
 #[derive(Debug, Drop)]
 pub struct NoMemory;
 
-/// The numbers below `n`, each of which is drawn at most once, by any number of threads. They are seen as which
-/// claims they are, and `n`.
+/// The numbers below `n`, each of which is drawn at most once, by any number of threads. They are
+/// seen as which claims they are, and `n`.
 #[derive(Drop)]
 pub struct Claims {
     table: Table<(), View, Bounds, ClaimRule, Global>,
@@ -30,8 +31,9 @@ impl Model for Claims {
     ghost invariant = { λ c. (c.table.shared.table_id.words ≡ 1) × (c.table.shared.key.n ≡ c.n) };
 }
 
-/// What one thread draws with. It is seen as its claims (`of`), the numbers that it drew in their order (`drawn`),
-/// whether it has ended (`ended`), and how many seats may still be split off it (`spare`).
+/// What one thread draws with. It is seen as its claims (`of`), the numbers that it drew in their
+/// order (`drawn`), whether it has ended (`ended`), and how many seats may still be split off it
+/// (`spare`).
 #[derive(Drop)]
 pub struct ClaimSeat {
     seat: Seat<(), View>,
@@ -51,8 +53,8 @@ impl Model for ClaimSeat {
 }
 
 impl Claims {
-    /// The numbers below `n`, and the first of at most `seats` seats, off which all others are split. `n` is below
-    /// 2^32, and `seats` is 1 to 2^32: so the word of the claims never wraps.
+    /// The numbers below `n`, and the first of at most `seats` seats, off which all others are
+    /// split. `n` is below 2^32, and `seats` is 1 to 2^32: so the word of the claims never wraps.
     pub fn new(alloc: Global, n: u64, seats: u64) -> Result<(Claims, ClaimSeat), NoMemory>
         requires { (n < 2 ^ 32) × (1 ≤ seats) × (seats ≤ 2 ^ 32) }
         ensures claims { IfOk result (λ r. r.0.n ≡ n) }
@@ -69,9 +71,9 @@ impl Claims {
         }
     }
 
-    /// Draws the next number, which this seat hasn't drawn before; that no other seat has drawn it is learned where
-    /// the two are joined. `None` is the end of the numbers: the seat has ended, and draws no more. It is one atomic
-    /// addition, takes no memory and waits for nobody.
+    /// Draws the next number, which this seat hasn't drawn before; that no other seat has drawn it
+    /// is learned where the two are joined. `None` is the end of the numbers: the seat has ended,
+    /// and draws no more. It is one atomic addition, takes no memory and waits for nobody.
     pub fn draw(&self, seat: &mut ClaimSeat) -> Option<u64>
         requires { seat.old.of ≡ self.now }
         ensures below { IfSome result (λ t. (t < self.now.n) × (times t seat.old.drawn ≡ 0)) }
@@ -105,8 +107,8 @@ impl Claims {
         }
     }
 
-    /// Takes in the numbers and the spare of another seat of these claims. The two seats have drawn no number in
-    /// common. It takes no memory and waits for nobody.
+    /// Takes in the numbers and the spare of another seat of these claims. The two seats have drawn
+    /// no number in common. It takes no memory and waits for nobody.
     pub fn join(&self, seat: &mut ClaimSeat, other: ClaimSeat)
         requires { (seat.old.of ≡ self.now) × (other.of ≡ self.now) }
         ensures once { AreDistinct seat.old.drawn other.drawn }

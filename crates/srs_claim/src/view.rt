@@ -1,4 +1,5 @@
-// What a seat at the table of some claims knows, and what its steps tell. Word 0 is the number that is drawn next.
+// What a seat at the table of some claims knows, and what its steps tell. Word 0 is the number that
+// is drawn next.
 use atomic_table::{Join, Play, Split, TableRule};
 use std::collections::LinkedList;
 

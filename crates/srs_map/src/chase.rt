@@ -1,9 +1,10 @@
-// Two runners on one orbit: the hare takes two steps while the tortoise takes one. They meet soon after the orbit
-// begins to go round, and no memory of the pairs is needed (Floyd's argument).
+// Two runners on one orbit: the hare takes two steps while the tortoise takes one. They meet soon
+// after the orbit begins to go round, and no memory of the pairs is needed (Floyd's argument).
 ghost use Rattle.std.specs.Prelude.{◌≡◌, ◌≤◌, ◌↔◌, IsTrue, IfSome, IfNone};
 ghost use Rattle.srs_num.specs.Points.{IsNear};
 ghost use Rattle.srs_map.specs.Step.{after, origin, IsNarrow};
-ghost use Rattle.srs_map.specs.Chase.{IsPlain, IsPlainBefore, IsEvent, IsMeeting, IsFinish, IsStart, IsPeriod};
+ghost use Rattle.srs_map.specs.Chase.{IsPlain, IsPlainBefore, IsEvent, IsMeeting, IsFinish};
+ghost use Rattle.srs_map.specs.Chase.{IsStart, IsPeriod};
 ghost use Rattle.srs_map.specs.declared.orbits.TheConstants.{MOST_STEPS};
 
 use crate::{is_narrow, is_origin, step};
@@ -16,8 +17,8 @@ pub struct Place {
     pub pair: V2,
 }
 
-/// How a race ended: the hare reached (0,0), or a pair past the bound of its entries, after so many steps of its own;
-/// or the two met, after so many steps of the tortoise; or none of these.
+/// How a race ended: the hare reached (0,0), or a pair past the bound of its entries, after so many
+/// steps of its own; or the two met, after so many steps of the tortoise; or none of these.
 #[derive(Clone, Copy)]
 pub enum Finish {
     Origin(u32),
@@ -69,8 +70,8 @@ pub fn event(w: V2, k: u32) -> Option<Finish>
     None
 }
 
-/// The first pair of the orbit of `z` that comes back after as many steps as the meeting took. It costs two steps for
-/// each of the answer's.
+/// The first pair of the orbit of `z` that comes back after as many steps as the meeting took. It
+/// costs two steps for each of the answer's.
 pub fn start(r: &Pt, z: V2, meeting: Place) -> Place
     requires near { IsNear r.now }
     requires met { IsMeeting r.now z meeting }
@@ -88,8 +89,8 @@ pub fn start(r: &Pt, z: V2, meeting: Place) -> Place
     meeting
 }
 
-/// After how many steps the pair `w` comes back, given that it does after `i` steps, with plain pairs on the way. It
-/// costs one step for each of the answer's.
+/// After how many steps the pair `w` comes back, given that it does after `i` steps, with plain
+/// pairs on the way. It costs one step for each of the answer's.
 pub fn period(r: &Pt, w: V2, i: u32) -> u32
     requires near { IsNear r.now }
     requires some { 1 ≤ i }

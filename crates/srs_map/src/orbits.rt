@@ -13,8 +13,9 @@ use srs_num::{Pt, V2};
 /// The most steps of an orbit that may be asked for.
 pub const MOST_STEPS: u32 = 100_000;
 
-/// How an orbit ended: at (0,0) after so many steps, past the bound of its entries after so many steps, at a pair
-/// that was met before (after how many steps, and how many more lead back to it), or without any of these.
+/// How an orbit ended: at (0,0) after so many steps, past the bound of its entries after so many
+/// steps, at a pair that was met before (after how many steps, and how many more lead back to it),
+/// or without any of these.
 #[derive(Clone, Copy, Debug, PartialEq, Eq)]
 pub enum OrbitEnd {
     Zero(u32),
@@ -23,9 +24,9 @@ pub enum OrbitEnd {
     Spent,
 }
 
-/// The first event of the first `n` steps from `z`: a pair (0,0), a pair with an entry beyond `MOST_ENTRY`, or a pair that was
-/// met before. It takes no memory, and at most six steps for each of n: three in the race, two up to the start of the
-/// loop, and one round it.
+/// The first event of the first `n` steps from `z`: a pair (0,0), a pair with an entry beyond
+/// `MOST_ENTRY`, or a pair that was met before. It takes no memory, and at most six steps for each
+/// of n: three in the race, two up to the start of the loop, and one round it.
 pub fn orbit(r: &Pt, z: V2, n: u32) -> OrbitEnd
     requires near { IsNear r.now }
     requires narrow { IsNarrow z }

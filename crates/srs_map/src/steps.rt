@@ -31,8 +31,9 @@ pub fn minus(w: V2) -> V2
     V2 { a: -w.a, b: -w.b }
 }
 
-/// The step of the parameter `r` at the pair `z`, which takes `(a, b)` to `(b, -floor((p*a + q*b) / d))`. It is given for
-/// a parameter of two coordinates within 4, and entries within `MOST_ENTRY`: then the new entry is within 2^40.
+/// The step of the parameter `r` at the pair `z`, which takes `(a, b)` to `(b, -floor((p*a + q*b) /
+/// d))`. It is given for a parameter of two coordinates within 4, and entries within `MOST_ENTRY`:
+/// then the new entry is within 2^40.
 pub fn step(r: &Pt, z: V2) -> V2
     requires near { IsNear r.now }
     requires narrow { IsNarrow z }

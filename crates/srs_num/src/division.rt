@@ -23,8 +23,8 @@ pub fn ceil_div(n: i128, d: i128) -> i128
     }
 }
 
-/// Whether `n1 / d1` is below `n2 / d2`, for `d1` and `d2` at least 1. It compares whole parts and then remainders, as
-/// Euclid's algorithm does, since the products may not fit.
+/// Whether `n1 / d1` is below `n2 / d2`, for `d1` and `d2` at least 1. It compares whole parts and
+/// then remainders, as Euclid's algorithm does, since the products may not fit.
 pub fn is_less_quotient(n1: i128, d1: i128, n2: i128, d2: i128) -> bool
     requires first { pos 1 ≤ℤ d1 }
     requires second { pos 1 ≤ℤ d2 }

@@ -42,7 +42,8 @@ pub fn cross(f: &Form, g: &Form) -> Option<Corner>
     }
 }
 
-/// Where the lines of `f` and `g` cross, where the second turns to the left. Its numbers are at most 2^77 in magnitude.
+/// Where the lines of `f` and `g` cross, where the second turns to the left. Its numbers are at
+/// most 2^77 in magnitude.
 pub fn crossing_of(f: &Form, g: &Form) -> Corner
     requires { pos 0 <ℤ (meet f.now g.now).d }
     ensures value { result ≡ meet f.now g.now }

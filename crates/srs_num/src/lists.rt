@@ -1,5 +1,6 @@
 // Lists inside public types: one small type over `Vec`, seen as a list.
-ghost use Rattle.std.specs.Prelude.{◌≡◌, ◌<◌, [], ◌∷◌, ◌++◌, List, length, slice_get, Some, ⊤, IfOk, IfErr, OnOk, OnErr};
+ghost use Rattle.std.specs.Prelude.{◌≡◌, ◌<◌, [], ◌∷◌, ◌++◌, List, length, slice_get, Some, ⊤};
+ghost use Rattle.std.specs.Prelude.{IfOk, IfErr, OnOk, OnErr};
 
 use crate::{Form, NoMemory, V2};
 use std::alloc::Global;
@@ -19,7 +20,8 @@ impl<T> Kept<T> for Any {
 
 /// Items, seen as the list of them. A list of a kind keeps what is said of the lists of that kind.
 ///
-/// Where a list has to grow without a refusal, fill a `Vec` that was reserved, and make the list of it by `of`.
+/// Where a list has to grow without a refusal, fill a `Vec` that was reserved, and make the list of
+/// it by `of`.
 #[derive(Drop)]
 pub struct Items<T, K: Kept<T> = Any> {
     items: Vec<T>,

@@ -6,8 +6,8 @@ ghost use Rattle.srs_num.specs.Lines.{plus};
 
 use std::marker::Model;
 
-/// The point `(p / d, q / d)`, with `d` from 1 to `MOST_DENOMINATOR` and `p` and `q` at most `MOST_NUMERATOR` in
-/// magnitude.
+/// The point `(p / d, q / d)`, with `d` from 1 to `MOST_DENOMINATOR` and `p` and `q` at most
+/// `MOST_NUMERATOR` in magnitude.
 #[derive(Clone, Copy, Debug, PartialEq, Eq, Drop)]
 pub struct Pt {
     p: i64,
@@ -34,8 +34,8 @@ pub const MOST_DENOMINATOR: u64 = 1 << 40;
 pub const MOST_NUMERATOR: u64 = 1 << 42;
 
 impl Pt {
-    /// `None` exactly where `d` isn't 1 to `MOST_DENOMINATOR` or one of the others is beyond `MOST_NUMERATOR` in
-    /// magnitude.
+    /// `None` exactly where `d` isn't 1 to `MOST_DENOMINATOR` or one of the others is beyond
+    /// `MOST_NUMERATOR` in magnitude.
     pub fn new(p: i64, q: i64, d: i64) -> Option<Pt>
         ensures some { IfSome result (λ r. r ≡ record { p = p; q = q; d = d }) }
         ensures none { IfNone result (IsPtSized (record { p = p; q = q; d = d }) → ⊥) }
@@ -76,7 +76,8 @@ fn is_near(z: i64, d: i64) -> bool
     -4 * d <= z && z <= 4 * d
 }
 
-/// A corner of a cell, or a sum of corners: the point `(p / d, q / d)`, with `d` at least 1 and magnitudes below 2^84.
+/// A corner of a cell, or a sum of corners: the point `(p / d, q / d)`, with `d` at least 1 and
+/// magnitudes below 2^84.
 #[derive(Clone, Copy, Debug, PartialEq, Eq, Drop)]
 pub struct Corner {
     p: i128,

@@ -1,5 +1,5 @@
-//! A book that threads use in turn, as one history: the list of entries that it stands for only grows, and what a
-//! thread has seen of it is always a beginning of it.
+//! A book that threads use in turn, as one history: the list of entries that it stands for only
+//! grows, and what a thread has seen of it is always a beginning of it.
 #![tactic(auto)]
 
 mod sharing;

@@ -71,8 +71,8 @@ impl<B: Told> Turn<B> {
         Some(book)
     }
 
-    // Puts the book back, whose list had `was` entries, and gives up the turn. The book is in its slot before its
-    // length is stored: only the list of a book in a slot can be what a step tells.
+    // Puts the book back, whose list had `was` entries, and gives up the turn. The book is in its
+    // slot before its length is stored: only the list of a book in a slot can be what a step tells.
     pub(crate) fn give(&self, seat: &mut SeatOf<B>, book: B, was: u64)
         requires held { HoldsWithBookOut self.now seat.old }
         requires was { was ≡ length (seen_by seat.old) }

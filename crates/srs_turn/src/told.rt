@@ -2,8 +2,8 @@
 ghost use Rattle.std.specs.Prelude.{◌≡◌, ℕ, List, length};
 ghost use Rattle.srs_turn.specs.Prefixes.{AddsAtMostOne};
 
-/// A value that stands for a list of entries, `told`, and for plain data that no operation changes, `fixed`. No value
-/// of `Entry` or `Fixed` is made, so both may be types for clauses alone.
+/// A value that stands for a list of entries, `told`, and for plain data that no operation changes,
+/// `fixed`. No value of `Entry` or `Fixed` is made, so both may be types for clauses alone.
 pub trait Told {
     type Entry;
 
@@ -18,11 +18,12 @@ pub trait Told {
         ensures { result ≡ length (told self.now) };
 }
 
-/// An operation on a book. `ready` is its condition, of itself, the book's `fixed` and its list. `did` is what it
-/// promises, of itself, the `fixed`, the list before, the reply and the list after. It adds one entry at most.
+/// An operation on a book. `ready` is its condition, of itself, the book's `fixed` and its list.
+/// `did` is what it promises, of itself, the `fixed`, the list before, the reply and the list
+/// after. It adds one entry at most.
 ///
-/// A turn asks `ready` of each list that begins with what the pass has seen. So a condition on what was seen is written
-/// as one on some beginning of the list.
+/// A turn asks `ready` of each list that begins with what the pass has seen. So a condition on what
+/// was seen is written as one on some beginning of the list.
 pub trait Act<B: Told> {
     type Reply;
 

@@ -33,8 +33,8 @@ impl<B: Told> Model for Turn<B> {
     ghost invariant = { λ t. (t.table.shared.table_id.words ≡ 2) × (t.table.shared.table_id.slots ≡ 1) };
 }
 
-/// What one thread knows of a turn. It takes no bytes. It is seen as its turn, with the turn's `fixed`, and the list
-/// that it has seen (`seen`).
+/// What one thread knows of a turn. It takes no bytes. It is seen as its turn, with the turn's
+/// `fixed`, and the list that it has seen (`seen`).
 #[derive(Drop)]
 pub struct Pass<B: Told> {
     pub(crate) seat: Seat<Option<B>, View<B::Entry, B::Fixed>>,
@@ -53,8 +53,8 @@ impl<B: Told> Model for Pass<B> {
 }
 
 impl<B: Told> Turn<B> {
-    /// A turn round a book, and the first pass, which has seen the book's list. The one refusal is want of memory,
-    /// and gives the book back.
+    /// A turn round a book, and the first pass, which has seen the book's list. The one refusal is
+    /// want of memory, and gives the book back.
     pub fn start<R: Wait>(
         _rt: &R,
         alloc: Global,
@@ -84,8 +84,8 @@ impl<B: Told> Turn<B> {
         }
     }
 
-    /// Waits for the turn, and does `op` to the book, whose list begins with what the pass has seen. The pass has
-    /// then seen the list after `op`.
+    /// Waits for the turn, and does `op` to the book, whose list begins with what the pass has
+    /// seen. The pass has then seen the list after `op`.
     pub fn with_turn<A: Act<B>, R: Wait>(&self, rt: &R, pass: &mut Pass<B>, op: A) -> A::Reply
         requires own { IsPassOf self.now pass.old }
         requires ready { (list : List B.Entry) → Begins pass.old.seen list →
@@ -102,8 +102,8 @@ impl<B: Told> Turn<B> {
         reply
     }
 
-    /// The length of the book's list as the last operation left it, which the pass has then seen. It is one atomic
-    /// load, takes no memory and waits for nobody.
+    /// The length of the book's list as the last operation left it, which the pass has then seen.
+    /// It is one atomic load, takes no memory and waits for nobody.
     pub fn count(&self, pass: &mut Pass<B>) -> u64
         requires { IsPassOf self.now pass.old }
         ensures own { IsPassOf self.now pass.new }
@@ -123,8 +123,8 @@ impl<B: Told> Turn<B> {
         Pass { seat }
     }
 
-    /// The pass has then seen the longer of the two lists, one of which begins the other. It takes no memory and
-    /// waits for nobody.
+    /// The pass has then seen the longer of the two lists, one of which begins the other. It takes
+    /// no memory and waits for nobody.
     pub fn join(&self, pass: &mut Pass<B>, other: Pass<B>)
         requires { IsPassOf self.now pass.old × IsPassOf self.now other }
         ensures own { IsPassOf self.now pass.new }
@@ -140,7 +140,8 @@ impl<B: Told> Turn<B> {
 }
 
 impl<B: Told + Drop> Turn<B> {
-    /// Waits for the turn, and hands the book out. The turn is let go with its slot, so a `B` has to be `Drop`.
+    /// Waits for the turn, and hands the book out. The turn is let go with its slot, so a `B` has
+    /// to be `Drop`.
     pub fn finish<R: Wait>(self, rt: &R, mut pass: Pass<B>) -> B
         requires { IsPassOf self pass }
         ensures seen { Begins pass.seen (B.told result) }

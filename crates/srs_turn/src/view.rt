@@ -1,5 +1,5 @@
-// What a seat at the table of a turn knows, and what its steps tell.
-// Word 0 is 1 while a seat holds the turn, and else 0. Word 1 is the length of the book's list. Slot 0 has the book.
+// What a seat at the table of a turn knows, and what its steps tell. Word 0 is 1 while a seat holds
+// the turn, and else 0. Word 1 is the length of the book's list. Slot 0 has the book.
 use crate::told::Told;
 use atomic_table::{Join, Play, Split, TableRule};
 use std::collections::LinkedList;
@@ -14,8 +14,8 @@ pub enum Role<E> {
     Spent,
 }
 
-// What a seat knows: the list that it has seen, and what no operation changes, but for a spent seat. No value of it
-// is made.
+// What a seat knows: the list that it has seen, and what no operation changes, but for a spent
+// seat. No value of it is made.
 pub struct View<E, F> {
     pub role: Role<E>,
     pub seen: LinkedList<E>,

@@ -11,11 +11,33 @@ overflow_sub-result c =
 pub returns-clause-value : goal.returns-clause-value
 returns-clause-value c =
     let m = minor_fits c.args.a c.args.b c.args.c c.args.d c.requires.a c.requires.b c.requires.c c.requires.d in
-    simp (to_z-of_z m.a64, to_z-of_z m.b64, to_z-of_z m.c64, to_z-of_z m.d64, to_z-of_z m.a128, to_z-of_z m.b128, to_z-of_z m.c128, to_z-of_z m.d128, to_z-of_z m.first, to_z-of_z m.second,
-        to_z-of_z m.all)
+    simp (
+      to_z-of_z m.a64,
+      to_z-of_z m.b64,
+      to_z-of_z m.c64,
+      to_z-of_z m.d64,
+      to_z-of_z m.a128,
+      to_z-of_z m.b128,
+      to_z-of_z m.c128,
+      to_z-of_z m.d128,
+      to_z-of_z m.first,
+      to_z-of_z m.second,
+      to_z-of_z m.all,
+    )
 
 pub returns-clause-size : goal.returns-clause-size
 returns-clause-size c =
     let m = minor_fits c.args.a c.args.b c.args.c c.args.d c.requires.a c.requires.b c.requires.c c.requires.d in
-    simp (to_z-of_z m.a64, to_z-of_z m.b64, to_z-of_z m.c64, to_z-of_z m.d64, to_z-of_z m.a128, to_z-of_z m.b128, to_z-of_z m.c128, to_z-of_z m.d128, to_z-of_z m.first, to_z-of_z m.second,
-        to_z-of_z m.all) m.size
+    simp (
+      to_z-of_z m.a64,
+      to_z-of_z m.b64,
+      to_z-of_z m.c64,
+      to_z-of_z m.d64,
+      to_z-of_z m.a128,
+      to_z-of_z m.b128,
+      to_z-of_z m.c128,
+      to_z-of_z m.d128,
+      to_z-of_z m.first,
+      to_z-of_z m.second,
+      to_z-of_z m.all,
+    ) m.size

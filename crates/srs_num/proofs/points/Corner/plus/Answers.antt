@@ -27,4 +27,4 @@ returns c =
     let w = corner_fits y c.other.invariant in
     let s = corner_fits _ (plus_parts (2 ^ 84 - 1) x y h) in
     rw (← c.self.view_is, ← c.other.view_is)
-        (simp (to_z-of_z u.p, to_z-of_z u.q, to_z-of_z u.d, to_z-of_z w.p, to_z-of_z w.q, to_z-of_z w.d, to_z-of_z s.p, to_z-of_z s.q, to_z-of_z s.d) (plus_is x y))
+    (simp (to_z-of_z u.p, to_z-of_z u.q, to_z-of_z u.d, to_z-of_z w.p, to_z-of_z w.q, to_z-of_z w.d, to_z-of_z s.p, to_z-of_z s.q, to_z-of_z s.d) (plus_is x y))
