@@ -1,6 +1,7 @@
 pub mod PlaceLemmas
 pub mod Spans
 pub mod Entries
+pub mod BothLinks
 pub mod Answering
 pub mod RowCounts
 pub mod Soundness

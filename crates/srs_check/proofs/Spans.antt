@@ -32,7 +32,7 @@ walk_goes entries Good w low k place v s e good next = record {
     one_more : (x : ℤ) (n : ℕ) → x +ℤ pos n +ℤ pos 1 ≡ x +ℤ pos (n + 1)
     one_more x n = omega (arith, ints)
 
-step_of_low : (low j : ℤ) → low ≤ℤ j → (k : ℕ) × (low +ℤ pos k ≡ j)
+pub step_of_low : (low j : ℤ) → low ≤ℤ j → (k : ℕ) × (low +ℤ pos k ≡ j)
 step_of_low low j h = (unsigned_abs (j -ℤ low), omega (arith, ints))
 
 -- the pairs begin with the second entry of w

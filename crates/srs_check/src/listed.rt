@@ -1,5 +1,5 @@
 // The list of an inside leaf.
-ghost use Rattle.std.specs.Prelude.{◌≡◌, ◌≢◌, ◌<◌, ◌≤◌, ◌↔◌, ℕ, ℤ, length, slice_get, Some, IfErr, IsTrue, OnOk};
+ghost use Rattle.std.specs.Prelude.{◌≡◌, ◌≢◌, ◌<◌, ◌≤◌, ◌<ℤ◌, ◌↔◌, ℕ, ℤ, length, slice_get, Some, IfErr, IsTrue, OnOk};
 ghost use Rattle.srs_num.specs.declared.pairs.V2.{V2};
 ghost use Rattle.srs_map.specs.Step.{IsNarrow, origin};
 ghost use Rattle.srs_cell.specs.Moves.{LeadsTo, LeadsBackTo, AreMoves};
@@ -49,7 +49,7 @@ fn check_unit(ranks: &Ranks, w: V2) -> Result<(), Fault>
     }
 }
 
-// The links of the pair at the place `i`: first its steps, then its mirrored steps.
+// The links of the pair at the place `i`: first its steps, then its mirrored steps. Where nothing is wrong, both are seen at once.
 fn check_entry(cell: &Cell, ranks: &Ranks, i: u32) -> Result<(), Fault>
     requires there { i < length ranks.now }
     requires list { IsRankList ranks.now }
@@ -60,8 +60,49 @@ fn check_entry(cell: &Cell, ranks: &Ranks, i: u32) -> Result<(), Fault>
         IsFaultAt cell.now ranks.now e fault) }
 {
     let (w, rank) = ranks.entry(i);
+    if is_closed(cell, ranks, w, rank) {
+        return Ok(());
+    }
     check_ahead(cell, ranks, w, rank)?;
     check_back(cell, ranks, w)
+}
+
+// Whether the entry has no fault. Both links of `w` lead to one span of pairs, and only to the least of them may no step lead.
+fn is_closed(cell: &Cell, ranks: &Ranks, w: V2, rank: u32) -> bool
+    requires { IsNarrow w }
+    ensures { IsTrue result → IsClosedAt cell.now ranks.now (w, rank) }
+{
+    let span = cell.links(w);
+    let mut place = place_for(ranks, span.pair(w, 0));
+    let mut least_stays = false;
+    for k in 0..span.count() {
+        let v = span.pair(w, k);
+        let Some(reached) = rank_at(ranks, place, v) else {
+            return false;
+        };
+        if stays_up(w, rank, reached) {
+            if k > 0 {
+                return false;
+            }
+            least_stays = true;
+        }
+        place += 1;
+    }
+    !least_stays || leads_above(cell, w, span.low)
+}
+
+// Whether each step leads from `w` to a pair whose second entry is above this number.
+fn leads_above(cell: &Cell, w: V2, low: i64) -> bool
+    requires { IsNarrow w }
+    ensures { IsTrue result → (v : V2) → LeadsTo cell.now w v → low <ℤ v.b }
+{
+    is_less(low, steps_from(cell, w).low)
+}
+
+fn is_less(x: i64, y: i64) -> bool
+    ensures { IsTrue result ↔ (x <ℤ y) }
+{
+    x < y
 }
 
 // The second entries of the pairs to which a step leads from `w`.

@@ -1,12 +1,12 @@
 -- Whether a line is a word and numbers can be told: it says them, or it has a slip.
-use Rattle.std.proofs.Common.{◌≡◌, ◌⊎◌, ◌≤◌, ◌<◌, ◌^◌, ℕ, zero, suc, ℤ, pos, negsuc, neg_ℤ, List, [], ◌∷◌, length, get_or, FitsSigned, refl, sym, ap, ◌∙◌, inl, inr, arith}
+use Rattle.std.proofs.Common.{◌≡◌, ◌⊎◌, ◌≤◌, ◌<◌, ◌^◌, ℕ, ℤ, pos, negsuc, neg_ℤ, List, [], ◌∷◌, length, get_or, FitsSigned, refl, sym, ◌∙◌, inl, inr, arith}
 use Rattle.std.specs.Int.{w64}
 use Rattle.std.proofs.lemmas.Int.{ints}
 use Rattle.std.proofs.lemmas.Bool.Decides.{eqb_tells, leb_tells}
 use Rattle.srs_text.specs.Spelling.{AreDigits, IsPositive, value_after, SpellsNegative, Spells, IsNumber}
 use Rattle.srs_line.specs.declared.slip.Slip.{Slip}
 use Rattle.srs_line.specs.declared.slip.Slip.TheVariants.{Word, Number}
-use Rattle.srs_line.specs.Fields.{tokens, AreNumbers, Says, HasShape, HasBadNumber, IsFieldSlip, HasWord, SaysCount, IsCountSlip}
+use Rattle.srs_line.specs.Fields.{tokens, AreNumbers, Says, IsFieldSlip, HasWord, SaysCount, IsCountSlip}
 use Rattle.srs_line.specs.Many.{HasFields, IsManySlip}
 use Rattle.srs_line.proofs.FieldLaws.{numbers_length, fields_once}
 use Rattle.srs_line.proofs.LineTexts.{six_is}

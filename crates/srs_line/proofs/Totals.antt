@@ -1,11 +1,11 @@
 -- A text is read, or has a first slip.
-use Rattle.std.proofs.Common.{◌≡◌, ◌≢◌, ◌⊎◌, ◌≤◌, ◌+◌, ◌-◌, ◌++◌, ℕ, zero, suc, List, [], ◌∷◌, length, refl, sym, ap, inl, inr, arith, length-append}
+use Rattle.std.proofs.Common.{◌≢◌, ◌⊎◌, ◌≤◌, ◌+◌, ◌-◌, ℕ, zero, suc, List, [], ◌∷◌, length, refl, ap, inl, inr, arith, length-append}
 use Rattle.std.proofs.lemmas.List.Elements.{All-nil, All-cons}
 use Rattle.std.proofs.lemmas.Bool.Decides.{eqb_tells}
 use Rattle.srs_text.specs.Line.{HasNoLf, IsLineOf}
 use Rattle.srs_line.specs.declared.slip.Slip.{Slip}
 use Rattle.srs_line.specs.declared.slip.Slip.TheVariants.{Missing, Tail}
-use Rattle.srs_line.specs.Machine.{Runs, Reaches, IsRead, IsWrong, SlipsAt, IsTotal, IsReadOrSlips}
+use Rattle.srs_line.specs.Machine.{Reaches, IsWrong, IsTotal, IsReadOrSlips}
 use Rattle.srs_line.proofs.MachineLemmas.{reaches_start, reaches_more}
 
 -- the first line of a text, if it has an LF

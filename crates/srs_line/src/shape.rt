@@ -18,13 +18,17 @@ pub fn fields(line: &[u8], word: &[u8], into: &mut [i64]) -> Result<(), Slip>
     let Some(first) = left.next() else {
         return Err(Slip::Word);
     };
-    if !is_word(first, word) || !has_just(line, into.len()) {
+    if !is_word(first, word) {
         return Err(Slip::Word);
     }
-    if !numbers(&mut left, into) {
-        return Err(Slip::Number);
+    let count = into.len();
+    if numbers(&mut left, into) {
+        return Ok(());
     }
-    Ok(())
+    if !has_just(line, count) {
+        return Err(Slip::Word);
+    }
+    Err(Slip::Number)
 }
 
 /// Whether the first token is the word.
@@ -56,11 +60,11 @@ fn has_just(line: &[u8], count: usize) -> bool
     left.next().is_some() && left.next().is_none()
 }
 
-// Whether the tokens that are left are numbers, and which.
+// Whether the tokens that are left are just so many numbers, and which.
 fn numbers(left: &mut Tokens, into: &mut [i64]) -> bool
-    requires { length left.old ≡ length into.old }
     ensures yes { IsTrue result → AreNumbers left.old into.new }
-    ensures no { ¬ (IsTrue result) → (zs : List ℤ) → AreNumbers left.old zs → ⊥ }
+    ensures no { ¬ (IsTrue result) → length left.old ≡ length into.old → (zs : List ℤ) → AreNumbers
+        left.old zs → ⊥ }
 {
     for i in 0..into.len() {
         let Some(token) = left.next() else {
@@ -71,7 +75,7 @@ fn numbers(left: &mut Tokens, into: &mut [i64]) -> bool
         };
         into[i] = n;
     }
-    true
+    left.next().is_none()
 }
 
 /// Reads the line as the word and one number. It takes no memory.

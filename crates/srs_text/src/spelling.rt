@@ -1,12 +1,15 @@
 // Numbers, each of which has one spelling.
-ghost use Rattle.std.specs.Prelude.{◌≡◌, IsTrue, ◌↔◌, ◌++◌, List, ℕ, ℤ, FitsSigned, IfSome, IfNone, OnOk, OnErr};
+ghost use Rattle.std.specs.Prelude.{◌≡◌, ◌<◌, ◌^◌, IsTrue, ◌↔◌, ◌++◌, List, ℕ, ℤ, FitsSigned, IfSome, IfNone, OnOk, OnErr};
 ghost use Rattle.std.specs.Int.{w64};
 ghost use Rattle.std.specs.Fmt.{signed_decimal};
 ghost use Rattle.std.specs.Str.Parse.{ParsesSigned};
-ghost use Rattle.srs_text.specs.Spelling.{IsNumber, Spells, StartsPositive, sign_len};
+ghost use Rattle.srs_text.specs.Spelling.{IsNumber, Spells, AreDigits, value_after, StartsPositive, sign_len};
 
 use crate::{Bytes, Failed, NoMemory};
 use itoa::Buffer;
+
+// Ten times a number below this, and a digit, are below 2^63.
+const SHORT: u64 = 1 << 59;
 
 /// The number that the token spells: `0`, or a digit 1 to 9 and digits, or a minus before such. None for any other
 /// token, also one with a plus, a leading zero or `-0`, and for a number below -2^63 or above 2^63 - 1.
@@ -20,7 +23,39 @@ pub fn number(token: &[u8]) -> Option<i64>
     if !starts_positive(token, sign_len(token)) {
         return None;
     }
+    if let Some(n) = short_number(token) {
+        return Some(n);
+    }
     parsed(token).ok()
+}
+
+// The number that the token spells, unless it is too long to be read without care.
+fn short_number(token: &[u8]) -> Option<i64>
+    requires { StartsPositive token.now (sign_len token.now) }
+    ensures { IfSome result (IsNumber token.now) }
+{
+    if sign_len(token) == 0 {
+        let size = short_value(token)?;
+        return Some(size as i64);
+    }
+    let size = short_value(&token[1..])?;
+    Some(-(size as i64))
+}
+
+// What the digits say, unless there are too many or another byte is among them.
+fn short_value(digits: &[u8]) -> Option<u64>
+    ensures digits { IfSome result (λ n. AreDigits digits.now) }
+    ensures value { IfSome result (λ n. n ≡ value_after 0 digits.now) }
+    ensures short { IfSome result (λ n. n < 2 ^ 63) }
+{
+    let mut n = 0u64;
+    for digit in digits {
+        if *digit < b'0' || *digit > b'9' || n >= SHORT {
+            return None;
+        }
+        n = n * 10 + u64::from(*digit - b'0');
+    }
+    Some(n)
 }
 
 // How many bytes a minus takes.

@@ -4,7 +4,7 @@ use Rattle.srs_line.proofs.FieldLemmas.{numbers_push, no_numbers}
 use Rattle.srs_line.proofs.shape.numbers.Goals as goal
 
 pub returns-in_default-number-clause-no : goal.returns-in_default-number-clause-no
-returns-in_default-number-clause-no c not zs a =
+returns-in_default-number-clause-no c not same zs a =
     let was = c.loop-i.invariant.read in
     no_numbers was.0 c.in-Some.token.now c.next.new.self zs c.in_default-number.ensures.none (rw (was.1, c.in-Some.ensures.some) at a)
 
