@@ -29,7 +29,8 @@ pub trait LineMachine {
         ensures err { IfErr result (IsSlip (slips self.old line.now)) };
 }
 
-/// Reads the whole text, or names its first slip. Lines are counted from 1. A refusal leaves the machine in any state.
+/// Reads the whole text, or names its first slip. Lines are counted from 1. A refusal leaves the
+/// machine in any state.
 pub fn read_lines<M: LineMachine>(machine: &mut M, text: &[u8]) -> Result<(), FileErr>
     requires { length text.now + 1 < 2 ^ 32 }
     ensures read { OnOk result (IsRead M.steps M.is_end machine.old text.now machine.new) }

@@ -8,8 +8,8 @@ use crate::shape::is_word;
 use crate::{LineErr, Slip, Tokens};
 use srs_text::{Nums, number};
 
-/// Reads the line as the word and at least one number: gives the first, and puts those behind it into the empty list. A
-/// refusal may have filled it.
+/// Reads the line as the word and at least one number: gives the first, and puts those behind it
+/// into the empty list. A refusal may have filled it.
 pub fn numbers_of(line: &[u8], word: &[u8], into: &mut Nums) -> Result<i64, LineErr>
     requires { into.old ≡ [] }
     ensures ok { IfOk result (λ n. Says word.now (n ∷ into.new) line.now) }

@@ -1,15 +1,17 @@
 // A line as a word and numbers.
-ghost use Rattle.std.specs.Prelude.{◌≡◌, ◌↔◌, ◌+◌, ◌<◌, List, ℕ, ℤ, [], ◌∷◌, IsTrue, OnOk, IfOk, IfErr, length, FitsSigned};
+ghost use Rattle.std.specs.Prelude.{◌≡◌, ◌↔◌, ◌+◌, ◌<◌, List, ℕ, ℤ, [], ◌∷◌, IsTrue, OnOk, IfOk};
+ghost use Rattle.std.specs.Prelude.{IfErr, length, FitsSigned};
 ghost use Rattle.std.specs.List.{All};
 ghost use Rattle.std.specs.Int.{w64};
 ghost use Rattle.srs_text.specs.Line.{HasNoLf};
-ghost use Rattle.srs_line.specs.Fields.{tokens, AreNumbers, Says, HasWord, IsFieldSlip, SaysCount, IsCountSlip, line_of};
+ghost use Rattle.srs_line.specs.Fields.{tokens, AreNumbers, Says, HasWord, IsFieldSlip, SaysCount};
+ghost use Rattle.srs_line.specs.Fields.{IsCountSlip, line_of};
 
 use crate::{Slip, Tokens};
 use srs_text::number;
 
-/// Reads the line as the word and as many numbers as there is room for, separated by single spaces. It takes no
-/// memory. A refusal may have changed the numbers.
+/// Reads the line as the word and as many numbers as there is room for, separated by single spaces.
+/// It takes no memory. A refusal may have changed the numbers.
 pub fn fields(line: &[u8], word: &[u8], into: &mut [i64]) -> Result<(), Slip>
     ensures ok { OnOk result (Says word.now into.new line.now) }
     ensures err { IfErr result (IsFieldSlip word.now (length into.old) line.now) }
@@ -109,8 +111,8 @@ pub fn six(line: &[u8], word: &[u8]) -> Result<(i64, i64, i64, i64, i64, i64), S
     Ok((into[0], into[1], into[2], into[3], into[4], into[5]))
 }
 
-/// Reads the line as the word and a number from `low` to `high`; any other number is the slip `outside`. It takes no
-/// memory.
+/// Reads the line as the word and a number from `low` to `high`; any other number is the slip
+/// `outside`. It takes no memory.
 pub fn count_of(line: &[u8], word: &[u8], low: u32, high: u32, outside: Slip) -> Result<u32, Slip>
     ensures ok { IfOk result (λ n. SaysCount word.now low high n line.now) }
     ensures err { IfErr result (IsCountSlip word.now low high outside line.now) }

@@ -5,8 +5,8 @@ ghost use Rattle.srs_line.specs.Fields.{tokens};
 
 use std::marker::Model;
 
-/// The tokens that are left of a line, seen as the list of them. The tokens are the pieces between the line's spaces,
-/// and may be empty.
+/// The tokens that are left of a line, seen as the list of them. The tokens are the pieces between
+/// the line's spaces, and may be empty.
 #[derive(Drop)]
 pub struct Tokens<'a> {
     rest: Option<&'a [u8]>,

@@ -1,5 +1,6 @@
 // A source as lines, with no more of it in memory than it takes.
-ghost use Rattle.std.specs.Prelude.{◌≡◌, ◌+◌, ◌-◌, ◌^◌, ◌<◌, ◌≤◌, ◌++◌, [], Ok, length, IsNone, IfSome, IfOk, OnOk, OnErr, IsErrOf, Err, None, true, false};
+ghost use Rattle.std.specs.Prelude.{◌≡◌, ◌+◌, ◌-◌, ◌^◌, ◌<◌, ◌≤◌, ◌++◌, [], Ok, length, IsNone};
+ghost use Rattle.std.specs.Prelude.{IfSome, IfOk, OnOk, OnErr, IsErrOf, Err, None, true, false};
 ghost use Rattle.std.specs.Io.KnownBytes.{Consumes, Keeps, IsAtEnd};
 ghost use Rattle.srs_text.specs.Ends.{HasCause, Rose, TookUpTo, TookJust};
 ghost use Rattle.srs_text.specs.Windows.{Reads, TakesIn, Cuts, Ends};
@@ -91,8 +92,9 @@ impl Intake {
     }
 }
 
-/// The lines of a source, one after another. It is seen as how many bytes it may take in all (`limit`), how many it took
-/// before it failed (`taken`), those of them that it hasn't given (`held`), and why it failed, if it did (`failed`).
+/// The lines of a source, one after another. It is seen as how many bytes it may take in all
+/// (`limit`), how many it took before it failed (`taken`), those of them that it hasn't given
+/// (`held`), and why it failed, if it did (`failed`).
 #[derive(Drop)]
 pub struct LineFeed {
     intake: Intake,
@@ -132,8 +134,9 @@ impl LineFeed {
         })
     }
 
-    /// The next line of the source, or what follows the last LF. The first error stays: from then on the feed answers it, and
-    /// leaves the source alone. `TooLong` comes as soon as `limit + 1` bytes were taken in all, even where lines are held.
+    /// The next line of the source, or what follows the last LF. The first error stays: from then
+    /// on the feed answers it, and leaves the source alone. `TooLong` comes as soon as `limit + 1`
+    /// bytes were taken in all, even where lines are held.
     pub fn next<'f, S: Source>(&'f mut self, source: &mut S) -> Result<Fed<'f>, ReadErr>
         ensures* after { sem 𝓛 (Rests the_row self.entry
             (Feeds self.old (S.left source.old) (S.left source.new) result)) }

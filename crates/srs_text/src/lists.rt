@@ -1,5 +1,6 @@
 // Lists inside public types: small types over `Vec`, seen as lists.
-ghost use Rattle.std.specs.Prelude.{◌≡◌, ◌<◌, [], ◌∷◌, ◌++◌, length, slice_get, Some, IsTrue, ◌↔◌, Contains, IfErr, OnOk, OnErr};
+ghost use Rattle.std.specs.Prelude.{◌≡◌, ◌<◌, [], ◌∷◌, ◌++◌, length, slice_get, Some, IsTrue, ◌↔◌};
+ghost use Rattle.std.specs.Prelude.{Contains, IfErr, OnOk, OnErr};
 
 use std::alloc::Global;
 use std::marker::Model;

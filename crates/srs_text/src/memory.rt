@@ -1,5 +1,6 @@
 // Ends in memory, which fail where they are told to.
-ghost use Rattle.std.specs.Prelude.{◌≡◌, ◌<◌, ◌≤◌, ◌⊎◌, ◌↔◌, ◌-◌, ◌^◌, [], List, ℕ, pos, min, length, Contains, IfOk, IsTrue, IsOk, IsErr, OnErr, Some};
+ghost use Rattle.std.specs.Prelude.{◌≡◌, ◌<◌, ◌≤◌, ◌⊎◌, ◌↔◌, ◌-◌, ◌^◌, [], List, ℕ, pos, min};
+ghost use Rattle.std.specs.Prelude.{length, Contains, IfOk, IsTrue, IsOk, IsErr, OnErr, Some};
 ghost use Rattle.std.specs.Io.{ReadsAtMost};
 ghost use Rattle.std.specs.Io.KnownBytes.{ReadConsumes, WriteAppends};
 ghost use Rattle.srs_text.specs.Ends.{HasCause, Rose, IsSomeOf};
@@ -108,8 +109,8 @@ impl Source for MemSource {
 
     ghost faults = { λ s. s.failed };
 
-    /// Takes what is left, as far as `into` and the most of a read reach. The number of the next read stays at the greatest i64, and
-    /// the count of failures at the greatest u64.
+    /// Takes what is left, as far as `into` and the most of a read reach. The number of the next
+    /// read stays at the greatest i64, and the count of failures at the greatest u64.
     fn read(&mut self, into: &mut [u8]) -> Result<usize, Failed>
         requires { 0 < length into.old }
         ensures bound { ReadsAtMost result into.new }
@@ -158,8 +159,8 @@ impl Model for MemSink {
 }
 
 impl MemSink {
-    /// Room for `room` bytes, taken here: the writes take no memory. Those whose numbers are in `fail` fail, the
-    /// first being 0.
+    /// Room for `room` bytes, taken here: the writes take no memory. Those whose numbers are in
+    /// `fail` fail, the first being 0.
     pub fn new(alloc: Global, room: u64, fail: Nums) -> Result<MemSink, NoMemory>
         ensures { IfOk result
             (λ sink. sink ≡ record {

@@ -1,5 +1,6 @@
 // Numbers, each of which has one spelling.
-ghost use Rattle.std.specs.Prelude.{◌≡◌, ◌<◌, ◌^◌, IsTrue, ◌↔◌, ◌++◌, List, ℕ, ℤ, FitsSigned, IfSome, IfNone, OnOk, OnErr};
+ghost use Rattle.std.specs.Prelude.{◌≡◌, ◌<◌, ◌^◌, IsTrue, ◌↔◌, ◌++◌, List, ℕ, ℤ, FitsSigned};
+ghost use Rattle.std.specs.Prelude.{IfSome, IfNone, OnOk, OnErr};
 ghost use Rattle.std.specs.Int.{w64};
 ghost use Rattle.std.specs.Fmt.{signed_decimal};
 ghost use Rattle.std.specs.Str.Parse.{ParsesSigned};
@@ -11,8 +12,9 @@ use itoa::Buffer;
 // Ten times a number below this, and a digit, are below 2^63.
 const SHORT: u64 = 1 << 59;
 
-/// The number that the token spells: `0`, or a digit 1 to 9 and digits, or a minus before such. None for any other
-/// token, also one with a plus, a leading zero or `-0`, and for a number below -2^63 or above 2^63 - 1.
+/// The number that the token spells: `0`, or a digit 1 to 9 and digits, or a minus before such.
+/// None for any other token, also one with a plus, a leading zero or `-0`, and for a number below
+/// -2^63 or above 2^63 - 1.
 pub fn number(token: &[u8]) -> Option<i64>
     ensures some { IfSome result (IsNumber token.now) }
     ensures none { IfNone result ((z : ℤ) → IsNumber token.now z → ⊥) }

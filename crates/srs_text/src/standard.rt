@@ -4,8 +4,8 @@ ghost use Rattle.std.specs.Prelude.{◌≡◌, None};
 use crate::{Failed, Sink, Source};
 use std::io::{Read, Stdin, Stdout, Write};
 
-/// Standard input as a source. It tells no bytes. Each error of a read counts as a fault; at the greatest u64 it
-/// goes on failing, and the count stays there.
+/// Standard input as a source. It tells no bytes. Each error of a read counts as a fault; at the
+/// greatest u64 it goes on failing, and the count stays there.
 #[derive(Drop)]
 pub struct StdSource {
     input: Stdin,
@@ -37,8 +37,9 @@ impl Source for StdSource {
     }
 }
 
-/// Standard output as a sink. It tells no bytes. Each error of a write counts as a fault, and so does a write that
-/// takes nothing; at the greatest u64 it goes on failing, and the count stays there.
+/// Standard output as a sink. It tells no bytes. Each error of a write counts as a fault, and so
+/// does a write that takes nothing; at the greatest u64 it goes on failing, and the count stays
+/// there.
 #[derive(Drop)]
 pub struct StdSink {
     output: Stdout,

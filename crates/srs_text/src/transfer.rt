@@ -24,8 +24,8 @@ pub enum ReadErr {
     NoMemory,
 }
 
-/// The bytes to the end, at most `limit` of them. What a refusal took from the source is lost: `limit + 1` bytes at
-/// `TooLong`, at most `limit` at `Fault`, at most `limit + 1` at `NoMemory`.
+/// The bytes to the end, at most `limit` of them. What a refusal took from the source is lost:
+/// `limit + 1` bytes at `TooLong`, at most `limit` at `Fault`, at most `limit + 1` at `NoMemory`.
 pub fn read_all<S: Source>(alloc: Global, source: &mut S, limit: u64) -> Result<Bytes, ReadErr>
     requires { limit ≤ 2 ^ 31 }
     ensures taken { IfOk result (λ bytes. Consumes (S.left source.old) (S.left source.new) bytes) }

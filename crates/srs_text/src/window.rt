@@ -1,5 +1,6 @@
 // The bytes between a source and its lines.
-ghost use Rattle.std.specs.Prelude.{◌≡◌, ◌<◌, ◌≤◌, ◌^◌, ◌+◌, ◌++◌, [], List, ℕ, length, take, IfOk, OnOk, OnErr, IsErr};
+ghost use Rattle.std.specs.Prelude.{◌≡◌, ◌<◌, ◌≤◌, ◌^◌, ◌+◌, ◌++◌, [], List, ℕ, length, take, IfOk};
+ghost use Rattle.std.specs.Prelude.{OnOk, OnErr, IsErr};
 ghost use Rattle.std.specs.Bool.{OnTrue, OnFalse};
 ghost use Rattle.std.specs.List.{slice_range};
 ghost use Rattle.std.specs.Io.KnownBytes.{Consumes, Keeps, IsAtEnd};
@@ -15,8 +16,9 @@ use std::marker::Model;
 // How many bytes a window has room for at first.
 const FIRST_ROOM: usize = 16384;
 
-// The bytes that were taken and not yet given, in one buffer, and the line given last. Only the rest of a cut line is
-// moved, to the front of the buffer, and once a line is longer than the buffer, that doubles.
+// The bytes that were taken and not yet given, in one buffer, and the line given last. Only the
+// rest of a cut line is moved, to the front of the buffer, and once a line is longer than the
+// buffer, that doubles.
 #[derive(Drop)]
 pub struct Window {
     buffer: Vec<u8>,
