@@ -160,7 +160,7 @@ fn lines_of(
 {
     // The number of lines is bounded by these.
     let _ = limits.wits();
-    let mut lines = Vec::new(alloc);
+    let mut lines = Vec::with_capacity(alloc, events.len() as usize)?;
     let mut line = vertices.len() as u32 + 4;
     for i in 0..events.len() {
         if lines.push(line).is_err() {
@@ -196,7 +196,7 @@ fn lt_parts_of(alloc: Global, events: &Journal) -> Result<Vec<u32>, NoMemory>
     requires short { length events.now ≤ 65536 }
     ensures { IfOk result (λ places. ListsLtParts events.now places.items) }
 {
-    let mut places = Vec::new(alloc);
+    let mut places = Vec::with_capacity(alloc, events.len() as usize)?;
     // The cuts whose Lt part is still to come.
     let mut open: Vec<u32> = Vec::new(alloc);
     for i in 0..events.len() {

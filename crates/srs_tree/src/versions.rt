@@ -151,7 +151,8 @@ impl Version {
     pub fn preorder(&self, alloc: Global) -> Result<Journal, NoMemory>
         ensures { IfOk result (λ events. events ≡ preorder_of self.now) }
     {
-        let mut events = Journal::new(alloc);
+        // Each cell has at most one event.
+        let mut events = Journal::of(Vec::with_capacity(alloc, self.nodes.len())?);
         walk(&self.nodes, 0, &mut events)?;
         Ok(events)
     }

@@ -9,6 +9,9 @@ use srs_map::MOST_ENTRY;
 use srs_num::{NoMemory, Pairs, V2};
 use std::alloc::Global;
 
+// The most that an entry of a narrow pair may be.
+const MOST_END: i64 = 1 << 37;
+
 // Whether the first number of the span is greater in magnitude than the last one.
 pub(crate) fn is_downward(span: Span) -> bool
     requires low { IsWithin (2 ^ 41) span.low }
@@ -24,6 +27,9 @@ pub(crate) fn wide_end(w: V2, span: Span) -> Option<V2>
     ensures { MatchOption result (ArePairsNarrow w span.low span.high)
         (IsWideAmong w span.low span.high) }
 {
+    if -MOST_END <= span.low && span.high <= MOST_END {
+        return None;
+    }
     if span.low > span.high {
         return None;
     }

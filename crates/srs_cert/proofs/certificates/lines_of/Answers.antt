@@ -9,7 +9,7 @@ use Rattle.srs_cert.proofs.certificates.lines_of.Goals as goal
 pub loop-i-init : goal.loop-i-init
 loop-i-init c =
     let view : CertView = record { vertices = c.args.vertices.now; limits = c.args.limits.now; events = c.args.events.now } in
-    rw c.new-lines.ensures.items (lines_start view c.requires.counted)
+    rw c.in_ok-lines.ensures.items (lines_start view c.requires.counted)
 
 pub overflow_add-line-in-loop-i : goal.overflow_add-line-in-loop-i
 overflow_add-line-in-loop-i c =

@@ -12,7 +12,7 @@ empty_is [] e = refl
 empty_is (x ∷ xs) e = absurd (omega arith)
 
 pub loop-i-init : goal.loop-i-init
-loop-i-init c = rw (c.new-places.ensures.items, c.new-open.ensures.items) (parts_start c.args.events.now c.requires.tree)
+loop-i-init c = rw (c.in_ok-places.ensures.items, c.new-open.ensures.items) (parts_start c.args.events.now c.requires.tree)
 
 pub index_mut-requires : goal.index_mut-requires
 index_mut-requires c =
