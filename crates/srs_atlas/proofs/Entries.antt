@@ -101,7 +101,7 @@ module _ (Root : Area) (W : ℕ) (H : History) (e : Entry) (legal : IsLegal Root
       ∙ sym (map-append (cell_at Root (outcome_at after)) (filter (other e.path) (queue_of H)) (parts_by e.path e.outcome))
       ∙ ap (map (cell_at Root (outcome_at after))) (sym (queue-append H e))
 
-module _ (terms : Terms) (H : History) (t : Growing) (path : List Side) (f : Found) (book : IsBook terms H t) (may : MayEnter t.version path f) (ready : IsReady terms H path f) (sound : IsSound f.region f.w f.outcome) where
+module _ (terms : Terms) (H : History) (t : Growing) (path : List Side) (f : Found) (frontier : List WaitingCell) (book : IsBook terms H t frontier) (may : MayEnter t.version path f) (ready : IsReady terms H path f) (sound : IsSound f.region f.w f.outcome) where
   there : IsWelcome terms.root H path f
   there = welcome terms.root H t.version book.stands path f may
 
@@ -125,37 +125,37 @@ module _ (terms : Terms) (H : History) (t : Growing) (path : List Side) (f : Fou
       IsPlanned-append terms.root L H e old (subst (λ (n : ℕ). MayFollow terms.root n H e) (sym (book.bounds.same L is)) follows) next
 
   -- the book with the event
-  entered : (u : Growing) (same : Terms) → u.version ≡ with_entry t.version path f.outcome
-      → u.waiting ≡ without path t.waiting ++ map (cell_in u.version) (parts_by path f.outcome) → same ≡ terms → IsBook same (H ++ event_at path f.outcome ∷ []) u
-  entered u same is parts equal =
+  entered : (u : Growing) (same : Terms) (later : List WaitingCell) → u.version ≡ with_entry t.version path f.outcome
+      → later ≡ without path frontier ++ map (cell_in u.version) (parts_by path f.outcome) → same ≡ terms → IsBook same (H ++ event_at path f.outcome ∷ []) u later
+  entered u same later is parts equal =
       let stands : StandsFor terms.root (H ++ e ∷ []) u.version = subst (StandsFor terms.root (H ++ e ∷ [])) (sym is) (Stands-append terms.root H t.version e book.stands there.is_open.open_yet) in
-      let made : IsBook terms (H ++ e ∷ []) u = record {
+      let made : IsBook terms (H ++ e ∷ []) u later = record {
         bounds = book.bounds;
         lawful = record { legal = IsLegal-append terms.root terms.w H e book.lawful.legal follows; planned = planned };
         stands = stands;
-        waits = parts ∙ ap (λ (cs : List WaitingCell). without path t.waiting ++ cs) (cells_same terms.root (H ++ e ∷ []) u.version stands (parts_by path f.outcome))
-            ∙ waits_after terms.root terms.w H e book.lawful.legal t.waiting book.waits;
+        waits = parts ∙ ap (λ (cs : List WaitingCell). without path frontier ++ cs) (cells_same terms.root (H ++ e ∷ []) u.version stands (parts_by path f.outcome))
+            ∙ waits_after terms.root terms.w H e book.lawful.legal frontier book.waits;
       } in
-      subst (λ (x : Terms). IsBook x (H ++ e ∷ []) u) (sym equal) made
+      subst (λ (x : Terms). IsBook x (H ++ e ∷ []) u later) (sym equal) made
 
   -- the same, as the book's parts are made
-  pub book_after : (u : Growing) (events now : History) (o : Outcome) (same : Terms) → u.version ≡ with_entry t.version path f.outcome
-      → u.waiting ≡ without path t.waiting ++ map (cell_in u.version) (parts_by path f.outcome)
-      → events ≡ H → now ≡ events ++ event_at path o ∷ [] → o ≡ f.outcome → same ≡ terms → (now ≡ H ++ event_at path f.outcome ∷ []) × IsBook same now u
-  book_after u events now o same is parts a b d equal =
+  pub book_after : (u : Growing) (later : List WaitingCell) (events now : History) (o : Outcome) (same : Terms) → u.version ≡ with_entry t.version path f.outcome
+      → later ≡ without path frontier ++ map (cell_in u.version) (parts_by path f.outcome)
+      → events ≡ H → now ≡ events ++ event_at path o ∷ [] → o ≡ f.outcome → same ≡ terms → (now ≡ H ++ event_at path f.outcome ∷ []) × IsBook same now u later
+  book_after u later events now o same is parts a b d equal =
       let grown : now ≡ H ++ event_at path f.outcome ∷ [] = b ∙ ap₂ (λ (G : History) (x : Outcome). G ++ event_at path x ∷ []) a d in
-      (grown, subst (λ (G : History). IsBook same G u) (sym grown) (entered u same is parts equal))
+      (grown, subst (λ (G : History). IsBook same G u later) (sym grown) (entered u same later is parts equal))
 
   -- the event is the last of the history
-  pub done : (u : Growing) (now : History) (n : ℕ) → now ≡ H ++ event_at path f.outcome ∷ [] → n ≡ length now → IsBook terms now u → Commits terms path f H (IsDone n) now
-  done u now n is count made = record { answer = (there, is, count); lawful = made.lawful }
+  pub done : (u : Growing) (later : List WaitingCell) (now : History) (n : ℕ) → now ≡ H ++ event_at path f.outcome ∷ [] → n ≡ length now → IsBook terms now u later → Commits terms path f H (IsDone n) now
+  done u later now n is count made = record { answer = (there, is, count); lawful = made.lawful }
 
 -- an entry leaves the terms as they are
 pub same_terms : (u t : Growing) (w : ℕ) (plan : Option Budget) (path : List Side) (o : Outcome) → u.version ≡ with_entry t.version path o → terms_of u w plan ≡ terms_of t w plan
 same_terms u t w plan path o is = λ i. record { root = ap (λ (v : Snapshot). v.region) is i; w = w; plan = plan }
 
 -- what a version's refusal says of the history
-module _ (terms : Terms) (H : History) (g : Growing) (path : List Side) (f : Found) (book : IsBook terms H g) where
+module _ (terms : Terms) (H : History) (g : Growing) (path : List Side) (f : Found) (frontier : List WaitingCell) (book : IsBook terms H g frontier) where
   tree : tree_of g.version ≡ outcome_at H
   tree = same_tree terms.root H g.version book.stands
 
@@ -177,16 +177,16 @@ module _ (terms : Terms) (H : History) (g : Growing) (path : List Side) (f : Fou
   }
 
 -- the book without an event
-pub no_event : (terms same : Terms) (t : Growing) (H : History) → AreTerms terms → t.version ≡ record { region = terms.root; entries = finite.empty }
-    → H ≡ [] → t.waiting ≡ record { path = []; region = terms.root } ∷ [] → same ≡ terms → IsBook same H t
-no_event terms same t H bounds is none one equal =
-    let made : IsBook terms [] t = record {
+pub no_event : (terms same : Terms) (t : Growing) (frontier : List WaitingCell) (H : History) → AreTerms terms → t.version ≡ record { region = terms.root; entries = finite.empty }
+    → H ≡ [] → frontier ≡ record { path = []; region = terms.root } ∷ [] → same ≡ terms → IsBook same H t frontier
+no_event terms same t frontier H bounds is none one equal =
+    let made : IsBook terms [] t frontier = record {
       bounds = bounds;
       lawful = record { legal = IsLegal-empty terms.root terms.w; planned = λ L e. IsPlanned-empty terms.root L };
       stands = subst (StandsFor terms.root []) (sym is) (Stands-empty terms.root);
       waits = one ∙ ap (λ (R : Area). let x : WaitingCell = record { path = []; region = R } in x ∷ []) (sym (append-nil terms.root));
     } in
-    subst (λ (u : Terms). IsBook u H t) (sym equal) (subst (λ (G : History). IsBook terms G t) (sym none) made)
+    subst (λ (u : Terms). IsBook u H t frontier) (sym equal) (subst (λ (G : History). IsBook terms G t frontier) (sym none) made)
 
 -- what fits the plan at a beginning of what was seen is ready for each history that goes on from there
 pub ready_later : (terms same : Terms) (seen list : History) (path : List Side) (f : Found) → same ≡ terms → Begins seen list → f.w ≡ terms.w → IsShortCut path f.outcome

@@ -1,2 +1,5 @@
+pub mod FrontierLemmas
 pub mod Entries
 pub mod Crossing
+pub mod Pushing
+pub mod Walking

@@ -41,12 +41,12 @@ pub record BookView : Type 0 where
 abbrev pub terms_of : Growing → ℕ → Option Budget → Terms
 terms_of t w plan = record { root = t.version.region; w = w; plan = plan }
 
--- what a book keeps: the history is lawful, the version stands for it, and the cells without an event wait
-pub record IsBook (terms : Terms) (H : History) (t : Growing) : Type 0 where
+-- what a book keeps: the history is lawful, the version stands for it, and the frontier is the cells without an event, in order
+pub record IsBook (terms : Terms) (H : History) (t : Growing) (frontier : List WaitingCell) : Type 0 where
   pub bounds : AreTerms terms
   pub lawful : IsLawful terms H
   pub stands : StandsFor terms.root H t.version
-  pub waits : t.waiting ≡ waiting_in terms.root H
+  pub waits : frontier ≡ waiting_in terms.root H
 
 -- the version that stands for the history was given, or there was no memory
 pub record Shares (terms : Terms) (before : History) (reply : Result Snapshot NoMemory) (after : History) : Type 0 where

@@ -1,3 +1,4 @@
+pub mod Frontiers
 pub mod Books
 pub mod Commits
 pub mod Counting

@@ -8,11 +8,12 @@ ghost use Rattle.srs_atlas.specs.Commits.{IsReady, Commits};
 
 use crate::commits::{Commit, refused};
 use crate::counts::{Counts, counts_of};
+use crate::frontier::{Frontier, paths_of};
 use srs_cell::Cell;
 use srs_num::NoMemory;
 use srs_path::{Event, Finding, Limits, Path};
 use srs_plane::Region;
-use srs_tree::{Added, GrowingTree, Journal, PendingList, Version};
+use srs_tree::{GrowingTree, Journal, PendingList, Version};
 use srs_turn::Told;
 use std::alloc::Global;
 use std::marker::Model;
@@ -25,10 +26,11 @@ pub struct Terms {
     pub plan: Option<Limits>,
 }
 
-/// A history, with the tree that stands for it and knows the cells that wait.
+/// A history, with the tree that stands for it, and the cells that wait.
 #[derive(Drop)]
 pub struct Book {
     tree: GrowingTree,
+    frontier: Frontier,
     events: Vec<Event>,
     w: u32,
     plan: Option<Limits>,
@@ -41,7 +43,7 @@ impl Model for Book {
 
     ghost view = { λ b. record { history = b.events.items; terms = terms_of b.tree b.w b.plan } };
 
-    ghost invariant = { λ b. IsBook (terms_of b.tree b.w b.plan) b.events.items b.tree };
+    ghost invariant = { λ b. IsBook (terms_of b.tree b.w b.plan) b.events.items b.tree b.frontier };
 }
 
 impl Told for Book {
@@ -72,8 +74,12 @@ impl Book {
         ensures terms { IfOk result
             (λ b. b.terms ≡ record { root = cell; w = w; plan = plan.now }) }
     {
+        let tree = GrowingTree::start(alloc, cell)?;
+        let mut frontier = Frontier::new(alloc);
+        frontier.push(tree.root()?)?;
         Ok(Book {
-            tree: GrowingTree::start(alloc, cell)?,
+            tree,
+            frontier,
             events: Vec::new(alloc),
             w,
             plan: *plan,
@@ -92,12 +98,24 @@ impl Book {
         if self.events.reserve(1).is_err() {
             return Commit::NoMemory(f);
         }
-        match self.tree.enter(alloc, path, f) {
-            Ok(Added { outcome, .. }) => {
+        let prepared = match self.tree.prepare(alloc, path, f) {
+            Ok(prepared) => prepared,
+            Err(refusal) => return refused(refusal),
+        };
+        if self.frontier.push_parts(&prepared.parts).is_err() {
+            return Commit::NoMemory(prepared.finding);
+        }
+        let pushed = paths_of(&prepared.parts);
+        match self.tree.enter_prepared(alloc, path, prepared) {
+            Ok(outcome) => {
+                self.frontier.remove(&path);
                 self.events.push_reserved(Event { path, outcome });
                 Commit::Done(self.events.len() as u64)
             }
-            Err(refusal) => refused(refusal),
+            Err(f) => {
+                self.frontier.remove_parts(&pushed);
+                Commit::NoMemory(f)
+            }
         }
     }
 
@@ -115,7 +133,7 @@ impl Book {
             (λ list. list ≡ waiting_in self.now.terms.root self.now.history) }
         ensures lawful { IsLawful self.now.terms self.now.history }
     {
-        self.tree.waiting(alloc)
+        self.frontier.list(alloc)
     }
 
     // How many cells there are down to a round, and in it.

@@ -5,6 +5,7 @@ mod atlas;
 mod book;
 mod commits;
 mod counts;
+mod frontier;
 mod lists;
 mod operations;
 mod sharing;

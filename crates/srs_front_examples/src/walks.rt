@@ -14,7 +14,7 @@ const MANY: u64 = 1000;
 pub fn walk(alloc: Global, front: &Front<u64>) -> Result<Vec<u64>, AllocError> {
     let mut items = Vec::new(alloc);
     let mut slot = front.first();
-    for _ in 0..MANY {
+    for _turn in 0..MANY {
         let Some(at) = slot else {
             break;
         };
@@ -28,7 +28,7 @@ pub fn walk(alloc: Global, front: &Front<u64>) -> Result<Vec<u64>, AllocError> {
 pub fn walk_back(alloc: Global, front: &Front<u64>) -> Result<Vec<u64>, AllocError> {
     let mut items = Vec::new(alloc);
     let mut slot = front.last();
-    for _ in 0..MANY {
+    for _turn in 0..MANY {
         let Some(at) = slot else {
             break;
         };
@@ -43,7 +43,7 @@ pub fn slot_at(front: &Front<u64>, place: usize) -> Option<u64>
     ensures { IfSome result (HasSlot front.now) }
 {
     let mut slot = front.first();
-    for _ in 0..place {
+    for _turn in 0..place {
         slot = match slot {
             Some(at) => front.next(at),
             None => None,

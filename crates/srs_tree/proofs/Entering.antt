@@ -18,10 +18,12 @@ use Rattle.srs_tree.specs.Tree.{IsCellOf, region_at}
 use Rattle.srs_tree.specs.Growth.{IsProvedOf, IsShortCut, IsOpenIn, MayEnter, IsTreeErr, SaysDone, SaysOther}
 use Rattle.srs_tree.specs.Snapshots.{side_cmp, Snapshot, tree_of, with_entry}
 use Rattle.srs_tree.specs.Nodes.{Spot, entries_of, root_of, snapshot_of, spots_tree, IsSpotOf, AreSpots, IsPlaceOf, parts_from, spot_with, grown, IsReadyFor, MaySettle, IsOpenAt, IsCounted, HasGrown}
-use Rattle.srs_tree.specs.Nodes.{open_cells}
-use Rattle.srs_tree.specs.Queue.{WaitingCell, without}
+use Rattle.srs_tree.specs.Nodes.{open_cells, spot_of, waiting_of}
+use Rattle.std.proofs.Common.{map}
+use Rattle.srs_tree.specs.Rounds.{parts_by}
+use Rattle.srs_tree.specs.Queue.{WaitingCell, without, cell_in}
 use Rattle.srs_tree.proofs.OpenCells.{open_after}
-use Rattle.srs_tree.proofs.Opened.{parts_came}
+use Rattle.srs_tree.proofs.Opened.{parts_came, spots_again}
 use Rattle.srs_tree.proofs.Places.{set_left}
 use Rattle.srs_tree.proofs.Growing.{are_spots, snapshot_after, len_after, entries_fewer}
 use Rattle.srs_tree.proofs.Spots.{tree_there}
@@ -63,6 +65,31 @@ module _ (xs : List Spot) (p : List Side) (f : Found) (i : ℕ) (tree : AreSpots
       → OnOk r (IsSound f.region f.w f.outcome) → OnOk r (HasGrown xs ys p f)
   grown_ok ys (Ok a) is most sound = has_grown ys most sound is
   grown_ok ys (Err e) is most sound = is
+
+-- the parts that were made before a finding comes
+module _ (xs : List Spot) (p : List Side) (f : Found) (i : ℕ) (tree : AreSpots xs) (at : IsOpenAt xs p f.region i) (most : length xs ≤ 2 ^ 48) (sound : IsSound f.region f.w f.outcome) where
+  abbrev next : List Spot
+  next = grown xs i at.spot f.outcome
+
+  next_is : HasGrown xs next p f
+  next_is = has_grown xs p f i tree at next most sound (λ x e. ap (λ (y : Spot). grown xs i y f.outcome) (is_spot xs p f i tree at x e))
+
+  abbrev coming : List WaitingCell
+  coming = map (cell_in (with_entry (snapshot_of xs) p f.outcome)) (parts_by p f.outcome)
+
+  coming_is : map waiting_of (parts_from at.spot f.outcome) ≡ coming
+  coming_is = parts_came xs next p f i tree at sound refl ∙ ap (λ (v : Snapshot). map (cell_in v) (parts_by p f.outcome)) next_is.snapshot
+
+  pub parts_before : (x : Spot) → slice_get xs i ≡ Some x → map waiting_of (parts_from x f.outcome) ≡ coming
+  parts_before x e = ap (λ (y : Spot). map waiting_of (parts_from y f.outcome)) (sym (is_spot xs p f i tree at x e)) ∙ coming_is
+
+  -- the same parts, entered
+  pub grown_parts : (ys parts : List Spot) (cells : List WaitingCell) (o : Outcome) → parts ≡ map spot_of cells → cells ≡ coming → o ≡ f.outcome
+      → ((x : Spot) → slice_get xs i ≡ Some x → parts ≡ parts_from x o → ys ≡ grown xs i x o) → HasGrown xs ys p f
+  grown_parts ys parts cells o parts_are cells_are same is =
+      has_grown xs p f i tree at ys most sound (λ x e.
+      let there : parts ≡ parts_from x f.outcome = parts_are ∙ ap (map spot_of) (cells_are ∙ sym (parts_before x e)) ∙ spots_again x f.outcome in
+      is x e (there ∙ ap (parts_from x) (sym same)) ∙ ap (grown xs i x) same)
 
 -- a finding that may come is proved
 pub may_settle : (x : Spot) (f : Found) → IsReadyFor x f → IsSound f.region f.w f.outcome → MaySettle x f.outcome

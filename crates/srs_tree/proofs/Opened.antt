@@ -13,7 +13,7 @@ use Rattle.srs_path.specs.Soundness.{IsSound}
 use Rattle.srs_tree.specs.Rounds.{parts_by}
 use Rattle.srs_tree.specs.Growth.{IsProvedOf}
 use Rattle.srs_tree.specs.Queue.{WaitingCell, cell_in}
-use Rattle.srs_tree.specs.Nodes.{Spot, snapshot_of, AreSpots, part_of, parts_from, waiting_of, grown, IsOpenAt}
+use Rattle.srs_tree.specs.Nodes.{Spot, snapshot_of, AreSpots, part_of, parts_from, spot_of, waiting_of, grown, IsOpenAt}
 use Rattle.srs_tree.proofs.Places.{get_right}
 use Rattle.srs_tree.proofs.Growing.{settled, are_spots}
 use Rattle.srs_tree.proofs.Regions.{proved_of, spot_region}
@@ -52,3 +52,10 @@ pub parts_ok : {A E : Type 0} (cells : A → List WaitingCell) (xs ys : List Spo
     → IfOk r (λ a. (x : Spot) → slice_get xs i ≡ Some x → cells a ≡ map waiting_of (parts_from x f.outcome)) → IfOk r (λ a. cells a ≡ map (cell_in (snapshot_of ys)) (parts_by p f.outcome))
 parts_ok cells xs ys p f i tree at (Ok a) is sound made = made at.spot at.is ∙ parts_came xs ys p f i tree at sound (is at.spot at.is)
 parts_ok cells xs ys p f i tree at (Err e) is sound made = made
+
+-- the cells of the parts that an outcome makes, as spots
+pub spots_again : (x : Spot) (o : Outcome) → map spot_of (map waiting_of (parts_from x o)) ≡ parts_from x o
+spots_again x (Inside ranks) = refl
+spots_again x (Outside cycle) = refl
+spots_again x (Cut h) = refl
+spots_again x (Left cause) = refl

@@ -94,6 +94,10 @@ grown xs i x o = slice_set xs i (spot_with x o (length xs)) ++ parts_from x o
 abbrev pub waiting_of : Spot → WaitingCell
 waiting_of x = record { path = x.path; region = x.region }
 
+-- the cell as a spot without an outcome
+abbrev pub spot_of : WaitingCell → Spot
+spot_of c = record { path = c.path; region = c.region; outcome = None; parts = 0 }
+
 -- the spot alone, if it has no outcome
 abbrev pub if_open : Spot → Option Outcome → List WaitingCell
 if_open x None = waiting_of x ∷ []

@@ -5,9 +5,10 @@ ghost use Rattle.srs_plane.specs.Regions.{Divides};
 ghost use Rattle.srs_path.specs.declared.paths.Side.TheVariants.{Ge as OnGe, Lt as OnLt};
 ghost use Rattle.srs_path.specs.Soundness.{IsSound};
 ghost use Rattle.srs_tree.specs.Growth.{IsShortCut, IsTreeErr, SaysDone, SaysOther};
-ghost use Rattle.srs_tree.specs.Nodes.{Spot, AreSpots, MaySettle, IsReadyFor, IsOpenAt, part_of, parts_from, spots_from, waiting_of, grown, snapshot_of, HasGrown};
+ghost use Rattle.srs_tree.specs.Nodes.{Spot, AreSpots, MaySettle, IsReadyFor, IsOpenAt, part_of, parts_from, spots_from, spot_of, waiting_of, grown, snapshot_of, HasGrown};
 ghost use Rattle.srs_tree.specs.Queue.{cell_in, cells_from};
 ghost use Rattle.srs_tree.specs.Rounds.{parts_by};
+ghost use Rattle.srs_tree.specs.Snapshots.{with_entry};
 
 use crate::nodes::{Node, Nodes, find, shared};
 use crate::waiting::Added;
@@ -81,6 +82,67 @@ pub(crate) fn enter(
     // A path has at most 48 sides, so a cell has at most 64 halves.
     let _ = path.len();
     enter_at(nodes, alloc, i, f)
+}
+
+// The parts that the finding's outcome makes of the open cell at the path, which stands at the place `i`, as cells that wait.
+// An `Err` is want of memory.
+pub(crate) fn parts_for(
+    nodes: &Nodes,
+    alloc: Global,
+    path: &Path,
+    i: usize,
+    f: &Finding,
+) -> Result<Option<(Pending, Pending)>, NoMemory>
+    requires spots { AreSpots nodes.now }
+    requires there { IsOpenAt nodes.now path.now f.now.region i }
+    requires short { IsShortCut path.now f.now.outcome }
+    ensures { IfOk result (λ parts. cells_from parts
+        ≡ map (cell_in (with_entry (snapshot_of nodes.now) path.now f.now.outcome)) (parts_by path.now f.now.outcome)) }
+{
+    // A path has at most 48 sides, so a cell has at most 64 halves.
+    let _ = path.len();
+    let place = nodes.len();
+    let parts = parts_of(alloc, nodes.get(i), f.outcome())?;
+    open_parts(&parts, place)
+}
+
+// As `enter`, with the parts that were made for it.
+pub(crate) fn enter_parts(
+    nodes: &mut Nodes,
+    alloc: Global,
+    path: &Path,
+    i: usize,
+    f: Finding,
+    parts: Option<(Pending, Pending)>,
+) -> Result<Arc<Outcome>, Finding>
+    requires spots { AreSpots nodes.old }
+    requires there { IsOpenAt nodes.old path.now f.region i }
+    requires parts { cells_from parts
+        ≡ map (cell_in (with_entry (snapshot_of nodes.old) path.now f.outcome)) (parts_by path.now f.outcome) }
+    ensures grown { OnOk result (HasGrown nodes.old nodes.new path.now f) }
+    ensures outcome { IfOk result (λ outcome. arc_value outcome ≡ f.outcome) }
+    ensures err { IfErr result (λ g. g ≡ f) }
+    ensures same { OnErr result (nodes.new ≡ nodes.old) }
+{
+    let _ = nodes.len();
+    // A finding is sound.
+    let _ = f.w();
+    let (outcome, f) = f.share_outcome(alloc)?;
+    let (other, f) = f.share_outcome(alloc)?;
+    match settle(nodes, alloc, i, outcome, nodes_of(parts)) {
+        Ok(()) => Ok(other),
+        Err(NoMemory) => Err(f),
+    }
+}
+
+// The cells, as open nodes.
+fn nodes_of(parts: Option<(Pending, Pending)>) -> Option<(Node, Node)>
+    ensures { spots_from result ≡ map spot_of (cells_from parts) }
+{
+    match parts {
+        Some((ge, lt)) => Some((Node::open(ge.path, ge.cell), Node::open(lt.path, lt.cell))),
+        None => None,
+    }
 }
 
 // The same, by the cell at the place `i`.

@@ -7,13 +7,13 @@ ghost use Rattle.srs_tree.specs.Rounds.{parts_by};
 ghost use Rattle.srs_tree.specs.Queue.{cell_in, cells_from, without};
 ghost use Rattle.srs_tree.specs.Growth.{IsShortCut, MayEnter, IsTreeErr};
 
-use crate::growth::{enter, place_for};
+use crate::growth::{enter, enter_parts, parts_for, place_for};
 use crate::nodes::{Node, Nodes, open_in, place_near};
-use crate::waiting::Added;
+use crate::waiting::{Added, Prepared};
 use crate::{Pending, PendingList, TreeErr, Version};
 use srs_cell::Cell;
 use srs_num::NoMemory;
-use srs_path::{Finding, Path};
+use srs_path::{Finding, Outcome, Path};
 use std::alloc::Global;
 use std::marker::Model;
 use std::sync::Arc;
@@ -87,6 +87,56 @@ impl GrowingTree {
             }
             Err(f) => Err(TreeErr::NoMemory(f)),
         }
+    }
+
+    /// The finding, if it may be entered at the path, with the cells that a cut makes: for who has to find memory for these
+    /// before the tree grows. A cut's path is shorter than 48.
+    pub fn prepare(&self, alloc: Global, path: Path, f: Finding) -> Result<Prepared, TreeErr>
+        requires { IsShortCut path f.outcome }
+        ensures may { OnOk result (MayEnter self.now.version path f) }
+        ensures finding { IfOk result (λ p. p.finding ≡ f) }
+        ensures parts { IfOk result (λ p. cells_from p.parts
+            ≡ map_list (cell_in (with_entry self.now.version path f.outcome)) (parts_by path f.outcome)) }
+        ensures refused { IfErr result (λ e. IsTreeErr self.now.version path f e) }
+    {
+        let (near, finding) = place_for(&self.nodes, &path, f)?;
+        match parts_for(&self.nodes, alloc, &path, near, &finding) {
+            Ok(parts) => Ok(Prepared {
+                finding,
+                parts,
+                near,
+            }),
+            Err(NoMemory) => Err(TreeErr::NoMemory(finding)),
+        }
+    }
+
+    /// Enters what was prepared, and gives an owner of the outcome. An `Err` is want of memory: it gives the finding back, and
+    /// leaves the tree as it was.
+    pub fn enter_prepared(
+        &mut self,
+        alloc: Global,
+        path: Path,
+        prepared: Prepared,
+    ) -> Result<Arc<Outcome>, Finding>
+        requires may { MayEnter self.old.version path prepared.finding }
+        requires parts { cells_from prepared.parts
+            ≡ map_list (cell_in (with_entry self.old.version path prepared.finding.outcome))
+                (parts_by path prepared.finding.outcome) }
+        ensures entered { OnOk result
+            (self.new.version ≡ with_entry self.old.version path prepared.finding.outcome) }
+        ensures outcome { IfOk result (λ outcome. arc_value outcome ≡ prepared.finding.outcome) }
+        ensures err { IfErr result (λ g. g ≡ prepared.finding) }
+        ensures same { OnErr result (self.new ≡ self.old) }
+    {
+        let Prepared {
+            finding,
+            parts,
+            near,
+        } = prepared;
+        let i = place_near(&self.nodes, near, &path);
+        let outcome = enter_parts(&mut self.nodes, alloc, &path, i, finding, parts)?;
+        self.count += 1;
+        Ok(outcome)
     }
 
     // As `enter`, where it is known that the finding may be entered; the cell is looked for at the place `near` first.

@@ -28,4 +28,4 @@ pub use refusals::TreeErr;
 pub use sessions::{Ascending, Few, Run, Script, Segment, Session, Transcript, Transcripts};
 pub use sharing::shared;
 pub use versions::{Grown, Version};
-pub use waiting::{Added, Pending, PendingList};
+pub use waiting::{Added, Pending, PendingList, Prepared};

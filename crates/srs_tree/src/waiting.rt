@@ -1,7 +1,7 @@
 // Cells without an event.
 use srs_cell::Cell;
 use srs_num::Items;
-use srs_path::{Outcome, Path};
+use srs_path::{Finding, Outcome, Path};
 use std::marker::Model;
 use std::sync::Arc;
 
@@ -31,4 +31,13 @@ pub type PendingList = Items<Pending>;
 pub struct Added {
     pub outcome: Arc<Outcome>,
     pub parts: Option<(Pending, Pending)>,
+}
+
+/// A finding that may be entered in a tree, with the two cells that a cut makes, Ge first.
+#[derive(Drop)]
+pub struct Prepared {
+    pub finding: Finding,
+    pub parts: Option<(Pending, Pending)>,
+    /// Where the tree keeps the cell: it looks there first. It tells nothing else.
+    pub near: usize,
 }
