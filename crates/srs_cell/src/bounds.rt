@@ -1,8 +1,10 @@
 // The least and the greatest value of a form over a cell.
-ghost use Rattle.std.specs.Prelude.{◌≡◌, ◌≤◌, ◌^◌, ◌↔◌, IsTrue, All, Contains, MatchOption, length, pos, ◌*ℤ◌, ◌≤ℤ◌, ◌<ℤ◌};
+ghost use Rattle.std.specs.Prelude.{◌≡◌, ◌≤◌, ◌^◌, ◌↔◌, IsTrue, All, Contains, MatchOption, length};
+ghost use Rattle.std.specs.Prelude.{pos, ◌*ℤ◌, ◌≤ℤ◌, ◌<ℤ◌};
 ghost use Rattle.srs_num.specs.Points.{Point, value, IsNear, IsWithin, IsPointWithin};
 ghost use Rattle.srs_plane.specs.Regions.{IsIn};
-ghost use Rattle.srs_cell.specs.Bounds.{IsInfimum, IsLow, IsHigh, IsBoundSized, AreShort, IsLeastCorner, IsLeastSum, Takes};
+ghost use Rattle.srs_cell.specs.Bounds.{IsInfimum, IsLow, IsHigh, IsBoundSized, AreShort};
+ghost use Rattle.srs_cell.specs.Bounds.{IsLeastCorner, IsLeastSum, Takes};
 ghost use Rattle.srs_cell.specs.Floors.{IsLeastFloor};
 
 use crate::Cell;
@@ -14,7 +16,8 @@ use srs_num::{Corner, Form, is_less_quotient};
 // The most in magnitude of two numbers whose product 128 bits hold.
 const HALF: i128 = 1 << 62;
 
-/// The number `num / den`, with `den` at least 1, and whether a point takes it. The fraction isn't always reduced.
+/// The number `num / den`, with `den` at least 1, and whether a point takes it. The fraction isn't
+/// always reduced.
 #[derive(Clone, Copy, Debug, PartialEq, Eq, Drop)]
 pub struct Bound {
     pub num: i128,
@@ -30,7 +33,8 @@ pub struct Quotient {
 }
 
 impl Cell {
-    /// The infimum of the form over the points of the cell. It takes no memory, and goes over the at most 84 corners once.
+    /// The infimum of the form over the points of the cell. It takes no memory, and goes over the
+    /// at most 84 corners once.
     pub fn infimum(&self, f: &Form) -> Quotient
         ensures positive { pos 1 ≤ℤ result.den }
         ensures infimum { IsInfimum self.now f.now result.num result.den }
@@ -44,9 +48,9 @@ impl Cell {
         }
     }
 
-    /// The infimum of the form over the points of the cell, and whether a point takes it. It takes no memory: it goes
-    /// over the at most 84 corners twice and over the halves once. All points of a cell are near, which bounds
-    /// the value of a form of bounded numbers.
+    /// The infimum of the form over the points of the cell, and whether a point takes it. It takes
+    /// no memory: it goes over the at most 84 corners twice and over the halves once. All points of
+    /// a cell are near, which bounds the value of a form of bounded numbers.
     pub fn low(&self, f: &Form) -> Bound
         ensures low { IsLow self.now f.now result }
         ensures sized { IsBoundSized result }
@@ -63,7 +67,8 @@ impl Cell {
         }
     }
 
-    /// The supremum of the form over the points of the cell, and whether a point takes it. It costs what `low` does.
+    /// The supremum of the form over the points of the cell, and whether a point takes it. It costs
+    /// what `low` does.
     pub fn high(&self, f: &Form) -> Bound
         ensures high { IsHigh self.now f.now result }
         ensures sized { IsBoundSized result }
@@ -226,8 +231,8 @@ fn least_of(form: &Form, corners: &[Corner], short: bool) -> Corner
     least
 }
 
-// The numbers of the corners at which the form is least added up: a point strictly within each half in which one of
-// them is. The one at `least` counts twice, which does no harm.
+// The numbers of the corners at which the form is least added up: a point strictly within each half
+// in which one of them is. The one at `least` counts twice, which does no harm.
 fn least_sum(form: &Form, corners: &CornerList, least: &Corner) -> Corner
     requires few { length corners.now ≤ 84 }
     requires sized { All (IsPointWithin (2 ^ 77)) corners.now }

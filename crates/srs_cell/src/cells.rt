@@ -1,5 +1,6 @@
 // Cells, and how they are made.
-ghost use Rattle.std.specs.Prelude.{◌≡◌, ◌<◌, ◌↔◌, [], ◌∷◌, ◌++◌, length, IsTrue, IfOk, IsSome, MatchOption, All, pos, ◌≤ℤ◌};
+ghost use Rattle.std.specs.Prelude.{◌≡◌, ◌<◌, ◌↔◌, [], ◌∷◌, ◌++◌, length, IsTrue, IfOk, IsSome};
+ghost use Rattle.std.specs.Prelude.{MatchOption, All, pos, ◌≤ℤ◌};
 ghost use Rattle.srs_plane.specs.Regions.{IsIn, IsInHalf, HasPoint};
 ghost use Rattle.srs_num.specs.Points.{Point, value};
 ghost use Rattle.srs_map.specs.Step.{IsNarrow};
@@ -15,7 +16,8 @@ use srs_plane::Region;
 use std::alloc::Global;
 use std::marker::Model;
 
-/// A region that has a point, with the corners of its halves, where open edges count as closed: 1 to 84 of them.
+/// A region that has a point, with the corners of its halves, where open edges count as closed: 1
+/// to 84 of them.
 #[derive(Drop)]
 pub struct Cell {
     pub(crate) region: Region,
@@ -36,8 +38,8 @@ impl Model for Cell {
 }
 
 impl Cell {
-    /// The cell of the region, which may be a segment or a single point. `None` exactly where the region has no point. An
-    /// `Err` is want of memory. Both let the region go.
+    /// The cell of the region, which may be a segment or a single point. `None` exactly where the
+    /// region has no point. An `Err` is want of memory. Both let the region go.
     pub fn of(alloc: Global, region: Region) -> Result<Option<Cell>, NoMemory>
         ensures { IfOk result (λ found. MatchOption found (HasPoint region → ⊥)
             (λ cell. cell ≡ region)) }
@@ -110,8 +112,8 @@ pub(crate) fn inhabited(region: Region, corners: Vec<Corner>) -> Option<Cell>
     })
 }
 
-// Whether the corner, which is in the halves with their edges, is in each half of the region: it looks at the open edges
-// alone.
+// Whether the corner, which is in the halves with their edges, is in each half of the region: it
+// looks at the open edges alone.
 pub(crate) fn is_inside(region: &Region, corner: &Corner) -> bool
     requires { IsInHalves (boxed region.now) corner.now }
     ensures { IsTrue result ↔ All (λ h. IsInHalf h corner.now) region.now }

@@ -1,5 +1,6 @@
 // Cutting the corners of a region by a form.
-ghost use Rattle.std.specs.Prelude.{◌≡◌, ◌≤◌, ◌^◌, ◌↔◌, ◌+◌, ◌∷◌, ◌++◌, [], IsTrue, IfOk, MatchOption, All, List, length, take};
+ghost use Rattle.std.specs.Prelude.{◌≡◌, ◌≤◌, ◌^◌, ◌↔◌, ◌+◌, ◌∷◌, ◌++◌, [], IsTrue, IfOk};
+ghost use Rattle.std.specs.Prelude.{MatchOption, All, List, length, take};
 ghost use Rattle.srs_num.specs.Points.{Point, IsNear, IsPointWithin};
 ghost use Rattle.srs_plane.specs.declared.halves.Half.{Half};
 ghost use Rattle.srs_plane.specs.Regions.{IsIn};
@@ -149,8 +150,8 @@ pub(crate) fn corners_of(alloc: Global, region: &Region) -> Result<Option<Vec<Co
     Ok(Some(corners))
 }
 
-// The corners of a region with a half of the section's line appended, from those of the region, where some of these are
-// in that half.
+// The corners of a region with a half of the section's line appended, from those of the region,
+// where some of these are in that half.
 pub(crate) fn part_corners(
     alloc: Global,
     corners: &CornerList,

@@ -30,10 +30,11 @@ pub enum Parts {
 }
 
 impl Cell {
-    /// Cuts the cell by the form, for a cell of fewer than `MOST_HALVES` halves. A part may be a segment or a single point. An `Err` is
-    /// want of memory: no part is given.
-    // Where a side has no point, the answer is the other side's: so `AllGe` comes exactly where the form is at least 0 at
-    // every point, and `AllLt` exactly where it is below 0 at every point, since `Both` has a point on each side.
+    /// Cuts the cell by the form, for a cell of fewer than `MOST_HALVES` halves. A part may be a
+    /// segment or a single point. An `Err` is want of memory: no part is given.
+    // Where a side has no point, the answer is the other side's: so `AllGe` comes exactly where the
+    // form is at least 0 at every point, and `AllLt` exactly where it is below 0 at every point,
+    // since `Both` has a point on each side.
     pub fn cut(&self, alloc: Global, h: &Form) -> Result<Parts, NoMemory>
         requires { length self.now < MOST_HALVES }
         ensures { IfOk result (AreParts self.now h.now) }
@@ -83,8 +84,9 @@ fn cut_in_two(
     Ok(Parts::Both(above, below))
 }
 
-// The cell with the half appended, whose section this is, from the corners of this one, some of which are in that half.
-// `None` exactly where it has no point: where a corner is strictly within the half, it has one.
+// The cell with the half appended, whose section this is, from the corners of this one, some of
+// which are in that half. `None` exactly where it has no point: where a corner is strictly within
+// the half, it has one.
 fn part(
     alloc: Global,
     region: &Region,

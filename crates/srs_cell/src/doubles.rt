@@ -44,8 +44,8 @@ pub(crate) fn add_corner(corners: &mut Vec<Corner>, corner: Corner) -> Result<()
     Ok(())
 }
 
-// Appends the corner of the line, unless one of the corners is seen to be the same point. It looks for that where
-// `may_double` is set.
+// Appends the corner of the line, unless one of the corners is seen to be the same point. It looks
+// for that where `may_double` is set.
 pub(crate) fn join_corner(
     corners: &mut Vec<Corner>,
     line: &Form,

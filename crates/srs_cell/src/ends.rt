@@ -56,7 +56,8 @@ fn box_end(line: &Form) -> Option<Corner>
     nearer(left, &side(0, -1), line)
 }
 
-// The first end of the line within the box and the first `count` halves of the region. That of the opposite form is the other end.
+// The first end of the line within the box and the first `count` halves of the region. That of the
+// opposite form is the other end.
 fn line_end(region: &Region, count: u32, line: &Form) -> Option<Corner>
     requires { count ≤ length region.now }
     ensures { IsFirstEnd line.now (boxed (take count region.now)) result }

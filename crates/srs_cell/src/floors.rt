@@ -3,7 +3,8 @@ ghost use Rattle.std.specs.Prelude.{◌≡◌, ◌≤◌, ◌^◌, IsTrue, IfOk,
 ghost use Rattle.srs_num.specs.Points.{value, IsNear, IsWithin, IsPointWithin};
 ghost use Rattle.srs_map.specs.Step.{IsNarrow};
 ghost use Rattle.srs_cell.specs.Tallies.{IsTally};
-ghost use Rattle.srs_cell.specs.Floors.{form_of, AreFloorsBelow, IsRatioWithin, AreFloorsOf, IsLesserFloor, IsLesser, AreLessened};
+ghost use Rattle.srs_cell.specs.Floors.{form_of, AreFloorsBelow, IsRatioWithin, AreFloorsOf};
+ghost use Rattle.srs_cell.specs.Floors.{IsLesserFloor, IsLesser, AreLessened};
 
 use crate::bounds::denominator;
 use crate::corners::copied;
@@ -13,8 +14,9 @@ use srs_num::{Corner, Form, NoMemory, V2, floor_div};
 use std::alloc::Global;
 use std::marker::Model;
 
-// The most in magnitude of the numbers of a corner, and of the entries of a pair, for which 64 bits suffice. At a near
-// corner the value of such a pair and its floors are within 8 * 2^20, and 2^23 * 2^38 is below 2^63.
+// The most in magnitude of the numbers of a corner, and of the entries of a pair, for which 64 bits
+// suffice. At a near corner the value of such a pair and its floors are within 8 * 2^20, and 2^23 *
+// 2^38 is below 2^63.
 const SHORT: i128 = 1 << 38;
 
 const SHORT_ENTRY: i64 = 1 << 20;

@@ -9,11 +9,11 @@ use srs_map::minus;
 use srs_num::{Form, V2};
 
 impl Cell {
-    /// The second entries of the pairs to which both links of `w` lead, at the cell's points: each whole number of the span,
-    /// and no other. It is given for entries within `srs_map::MOST_ENTRY`. It takes no memory and goes over the corners
-    /// once.
-    // At a point with the value x these entries are -floor(x) and -ceil(x). So the span's ends are those of the corners, and
-    // open edges play no part.
+    /// The second entries of the pairs to which both links of `w` lead, at the cell's points: each
+    /// whole number of the span, and no other. It is given for entries within
+    /// `srs_map::MOST_ENTRY`. It takes no memory and goes over the corners once.
+    // At a point with the value x these entries are -floor(x) and -ceil(x). So the span's ends are
+    // those of the corners, and open edges play no part.
     pub fn links(&self, w: V2) -> Span
         requires { IsNarrow w }
         ensures { AreMoves (LinksTo self.now) w result.low result.high }
@@ -25,10 +25,10 @@ impl Cell {
         }
     }
 
-    /// The least and the greatest second entry of the pairs to which the step of the cell's points leads from `w`: each
-    /// whole number between is one too, and no other. It is given for entries within `srs_map::MOST_ENTRY`. It takes no
-    /// memory, and costs what `links` does; where the greatest value at a corner is whole, it goes over the corners and the
-    /// halves once more.
+    /// The least and the greatest second entry of the pairs to which the step of the cell's points
+    /// leads from `w`: each whole number between is one too, and no other. It is given for entries
+    /// within `srs_map::MOST_ENTRY`. It takes no memory, and costs what `links` does; where the
+    /// greatest value at a corner is whole, it goes over the corners and the halves once more.
     pub fn moves(&self, w: V2) -> (i64, i64)
         requires { IsNarrow w }
         ensures { AreMoves (LeadsTo self.now) w result.0 result.1 }

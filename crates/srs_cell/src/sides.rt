@@ -13,8 +13,8 @@ pub fn is_above(cell: &Cell, form: &Form) -> bool
     cell.corners.tally(form).below == 0
 }
 
-/// Whether the form is below 0 at each point of the cell. It goes over the corners once; where the greatest value at a
-/// corner is 0, it costs what `Cell::high` does.
+/// Whether the form is below 0 at each point of the cell. It goes over the corners once; where the
+/// greatest value at a corner is 0, it costs what `Cell::high` does.
 pub fn is_below(cell: &Cell, form: &Form) -> bool
     ensures { MatchBool result (StaysBelow cell.now form.now) (ReachesAbove cell.now form.now) }
 {

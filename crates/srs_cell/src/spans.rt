@@ -26,8 +26,8 @@ impl Span {
         }
     }
 
-    /// The pair number `k` of those to which `w` leads, where this is the span of their second entries: each begins with the
-    /// second entry of `w`.
+    /// The pair number `k` of those to which `w` leads, where this is the span of their second
+    /// entries: each begins with the second entry of `w`.
     pub fn pair(self, w: V2, k: u64) -> V2
         requires low { IsWithin (2 ^ 41) self.low }
         requires few { k < 2 ^ 43 }

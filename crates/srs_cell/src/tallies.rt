@@ -28,8 +28,8 @@ impl Tally {
         }
     }
 
-    // Whether an end of the line may be one of the corners, or the two ends one point: these are the corners on the line, or
-    // the one point at which the line crosses a segment.
+    // Whether an end of the line may be one of the corners, or the two ends one point: these are
+    // the corners on the line, or the one point at which the line crosses a segment.
     pub(crate) fn may_double(self) -> bool {
         self.on > 0 || self.above == 1 && self.below == 1
     }

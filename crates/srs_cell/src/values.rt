@@ -4,7 +4,8 @@ ghost use Rattle.srs_num.specs.Points.{value, IsWithin, IsPointWithin};
 
 use srs_num::{Corner, Form};
 
-// The value of the form at the corner, whose numbers are within 2^38 where `short` is set: then products of 64 bits do.
+// The value of the form at the corner, whose numbers are within 2^38 where `short` is set: then
+// products of 64 bits do.
 #[inline(always)]
 pub(crate) fn value_of(form: &Form, corner: &Corner, short: bool) -> i128
     requires { IsTrue short → IsPointWithin (2 ^ 38) corner.now }

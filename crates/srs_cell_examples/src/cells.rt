@@ -9,7 +9,8 @@ use std::test::Fail;
 
 const WIDEST: i64 = 1 << 37;
 
-// The kind of the triangle's edges, halves, and the point of the region that is its sample; none where it has none.
+// The kind of the triangle's edges, halves, and the point of the region that is its sample; none
+// where it has none.
 type Row = (
     Kind,
     &'static [(i64, i64, i64, Kind)],
@@ -30,8 +31,8 @@ const WHOLE_TRIANGLES: [Row; 6] = [
     (Kind::Ge, &[(1, 0, -2, Kind::Ge)], None),
 ];
 
-// The edge y = 0 and the corner (0, 0), closed and left out; the segment x = 1/4 between open ends, and the point
-// (1/4, 1/2) of it; strict halves that leave nothing.
+// The edge y = 0 and the corner (0, 0), closed and left out; the segment x = 1/4 between open ends,
+// and the point (1/4, 1/2) of it; strict halves that leave nothing.
 const SEGMENTS_AND_POINTS: [Row; 8] = [
     (Kind::Ge, &[(0, -1, 0, Kind::Ge)], Some((1, 0, 2))),
     (Kind::Gt, &[(0, -1, 0, Kind::Ge)], None),
@@ -207,8 +208,9 @@ fn bounds_of_cells(rt: HostRuntime) -> Result<(), Fail> {
 // The ends of a span.
 type Ends = (i64, i64);
 
-// A shape, a pair, where the step leads, and the mirrored step. On the open corner x * 2^37 is above 0 and below 2^34, whole
-// or not; on the edge -floor(-x) is 0 at x = 0 and 1 above it, and the mirrored step is -floor(x) mirrored.
+// A shape, a pair, where the step leads, and the mirrored step. On the open corner x * 2^37 is
+// above 0 and below 2^34, whole or not; on the edge -floor(-x) is 0 at x = 0 and 1 above it, and
+// the mirrored step is -floor(x) mirrored.
 const SPANS: [(Shape, (i64, i64), Ends, Ends); 10] = [
     (OPEN_CORNER, (-1, 0), (1, 1), (0, 0)),
     (

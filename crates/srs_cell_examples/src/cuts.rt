@@ -112,7 +112,8 @@ fn a_part_that_is_one_point(rt: HostRuntime) -> Result<(), Fail> {
     Ok(())
 }
 
-// The closed corner, cut by x = 48/392, then 47/392, and so on: the first is just left of the corner (1/8, 0).
+// The closed corner, cut by x = 48/392, then 47/392, and so on: the first is just left of the
+// corner (1/8, 0).
 fn cut_in_a_row(alloc: Global) -> Result<Cell, Fail> {
     let mut part = cell(alloc, &CLOSED_CORNER)?;
     for c in -48..0 {

@@ -1,5 +1,6 @@
 // Certificates.
-ghost use Rattle.std.specs.Prelude.{◌≡◌, ◌<◌, ◌≤◌, [], ◌∷◌, ◌++◌, length, slice_get, IsTrue, ◌↔◌, IfOk, OnOk, All, None, Some, IfNone, IfSome, MatchOption};
+ghost use Rattle.std.specs.Prelude.{◌≡◌, ◌<◌, ◌≤◌, [], ◌∷◌, ◌++◌, length, slice_get, IsTrue, ◌↔◌};
+ghost use Rattle.std.specs.Prelude.{IfOk, OnOk, All, None, Some, IfNone, IfSome, MatchOption};
 ghost use Rattle.srs_num.specs.Points.{LinearForm};
 ghost use Rattle.srs_plane.specs.Polygons.{IsPolygon, IsCounted};
 ghost use Rattle.srs_path.specs.declared.outcomes.Outcome.TheVariants.{Cut};
@@ -7,7 +8,8 @@ ghost use Rattle.srs_path.specs.Views.{Entry};
 ghost use Rattle.srs_tree.specs.Tree.{outcome_at};
 ghost use Rattle.srs_tree.specs.WholeTrees.{ListsWholeTree, IsWithin};
 ghost use Rattle.srs_cert.specs.Heights.{height};
-ghost use Rattle.srs_cert.specs.Certificates.{line_of_node, IsInRange, IsCertificate, ListsLines, StandsAt, ListsLtParts};
+ghost use Rattle.srs_cert.specs.Certificates.{line_of_node, IsInRange, IsCertificate, ListsLines};
+ghost use Rattle.srs_cert.specs.Certificates.{StandsAt, ListsLtParts};
 
 use srs_num::NoMemory;
 use srs_path::{Limits, Outcome, Path, Side};
@@ -16,8 +18,9 @@ use srs_tree::Journal;
 use std::alloc::Global;
 use std::marker::Model;
 
-/// A polygon, limits, and the events of a whole tree within them in preorder. Beside them it keeps the line of each node
-/// in its text, and for each cut the place at which the events of its Lt part begin.
+/// A polygon, limits, and the events of a whole tree within them in preorder. Beside them it keeps
+/// the line of each node in its text, and for each cut the place at which the events of its Lt part
+/// begin.
 #[derive(Drop)]
 pub struct Cert {
     vertices: Vertices,
@@ -38,8 +41,8 @@ impl Model for Cert {
 }
 
 impl Cert {
-    /// The certificate of a polygon's vertices, limits, and the events of a whole tree within them in preorder. An `Err` is
-    /// want of memory.
+    /// The certificate of a polygon's vertices, limits, and the events of a whole tree within them
+    /// in preorder. An `Err` is want of memory.
     pub fn new(
         alloc: Global,
         vertices: &[Vertex],
@@ -86,7 +89,8 @@ impl Cert {
         &self.events
     }
 
-    /// The line on which the node number `i` begins in the certificate's text. Nodes count from 0, lines from 1.
+    /// The line on which the node number `i` begins in the certificate's text. Nodes count from 0,
+    /// lines from 1.
     pub fn line(&self, i: u32) -> u32
         requires { i < length self.now.events }
         ensures { result ≡ line_of_node self.now i }
@@ -94,8 +98,8 @@ impl Cert {
         self.lines[i as usize]
     }
 
-    /// The outcome of the node at the path. `None` exactly where no node has that path. It goes down from the root by the
-    /// places of the parts, and takes no memory.
+    /// The outcome of the node at the path. `None` exactly where no node has that path. It goes
+    /// down from the root by the places of the parts, and takes no memory.
     pub fn outcome(&self, path: Path) -> Option<&Outcome>
         ensures { MatchOption result (outcome_at self.now.events path ≡ None)
             (λ o. outcome_at self.now.events path ≡ Some o.now) }

@@ -8,8 +8,8 @@ use srs_num::{Form, Forms, NoMemory};
 use srs_path::Cycle;
 use std::alloc::Global;
 
-/// The forms `f_0, f_0 - 1, f_1, f_1 - 1, ..` of the cycle, two for each entry. It holds exactly at the points with
-/// `f_i >= 0` and `f_i - 1 < 0` for each i. An `Err` is want of memory.
+/// The forms `f_0, f_0 - 1, f_1, f_1 - 1, ..` of the cycle, two for each entry. It holds exactly at
+/// the points with `f_i >= 0` and `f_i - 1 < 0` for each i. An `Err` is want of memory.
 pub fn cutout(alloc: Global, c: &Cycle) -> Result<Forms, NoMemory>
     ensures { IfOk result (λ forms. forms ≡ cutout_of c.now) }
 {

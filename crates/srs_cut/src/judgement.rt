@@ -13,13 +13,13 @@ use srs_path::Cycle;
 pub enum Judged {
     /// At each point it holds.
     Covers,
-    /// `at` is the least place at which some point breaks it. `divides` is the first form of its cutout that divides
-    /// the cell, `None` where none does.
+    /// `at` is the least place at which some point breaks it. `divides` is the first form of its
+    /// cutout that divides the cell, `None` where none does.
     Fails { at: u32, divides: Option<Form> },
 }
 
-/// Whether the cycle covers the cell, and if not, where it breaks and which form of it divides the cell. It takes no
-/// memory. It costs up to four bounds for each entry of the cycle.
+/// Whether the cycle covers the cell, and if not, where it breaks and which form of it divides the
+/// cell. It takes no memory. It costs up to four bounds for each entry of the cycle.
 pub fn judge(cell: &Cell, c: &Cycle) -> Judged
     ensures { IsJudged cell.now c.now result }
 {
@@ -40,8 +40,8 @@ fn holds(cell: &Cell, c: &Cycle, i: u32) -> bool
     is_above(cell, &lower_form(c, i)) && is_below(cell, &upper_form(c, i))
 }
 
-// The first form of the cutout that divides the cell, where the cycle holds at each place before `from`: a form that is
-// on one side of the cell doesn't divide it.
+// The first form of the cutout that divides the cell, where the cycle holds at each place before
+// `from`: a form that is on one side of the cell doesn't divide it.
 fn first_division(cell: &Cell, c: &Cycle, from: u32) -> Option<Form>
     requires from { from ≤ length c.now }
     requires before { (j : ℕ) → j < from → HoldsThrough cell.now c.now j }

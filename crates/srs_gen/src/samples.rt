@@ -2,7 +2,8 @@
 ghost use Rattle.std.specs.Prelude.{◌≡◌, ◌<◌, ◌≤◌, ◌*◌, ◌^◌, IfOk};
 ghost use Rattle.srs_plane.specs.Polygons.{IsPolygon};
 ghost use Rattle.srs_gen.specs.Draws.{next_state, state_after};
-ghost use Rattle.srs_gen.specs.Samples.{kind_by, vertex_from, point_from, points_from, made_vertices, made_points};
+ghost use Rattle.srs_gen.specs.Samples.{kind_by, vertex_from, point_from, points_from};
+ghost use Rattle.srs_gen.specs.Samples.{made_vertices, made_points};
 
 use crate::draws::Generator;
 use srs_num::{Items, NoMemory, Pt};

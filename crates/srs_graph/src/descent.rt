@@ -1,9 +1,11 @@
-// The depth-first descent that finds the ranks. It enters each pair once, and reads each edge once, and once more where
-// it waited for the pair that the edge leads to.
-ghost use Rattle.std.specs.Prelude.{◌≡◌, ◌≢◌, ◌<◌, ◌≤◌, ◌+◌, ◌++◌, ◌∷◌, [], length, true, false, None, IfOk, OnOk};
+// The depth-first descent that finds the ranks. It enters each pair once, and reads each edge once,
+// and once more where it waited for the pair that the edge leads to.
+ghost use Rattle.std.specs.Prelude.{◌≡◌, ◌≢◌, ◌<◌, ◌≤◌, ◌+◌, ◌++◌, ◌∷◌, [], length, true, false};
+ghost use Rattle.std.specs.Prelude.{None, IfOk, OnOk};
 ghost use Rattle.srs_graph.specs.Networks.{row_at, AreRows};
 ghost use Rattle.srs_graph.specs.Marks.{mark_at, AreMarks};
-ghost use Rattle.srs_graph.specs.Descents.{is_entered, AreNotEntered, left_over, StayEntered, AreSmall, IsRead, TopWaitsFor, IsDescent};
+ghost use Rattle.srs_graph.specs.Descents.{is_entered, AreNotEntered, left_over, StayEntered};
+ghost use Rattle.srs_graph.specs.Descents.{AreSmall, IsRead, TopWaitsFor, IsDescent};
 ghost use Rattle.srs_path.specs.declared.limits.TheConstants.{MOST_WITNESSES};
 
 use crate::rows::Row;
@@ -19,7 +21,8 @@ pub(crate) struct Visit {
     pub rank: u32,
 }
 
-// The places that were entered, and the path to where the descent is: each pair is a successor of the one below it.
+// The places that were entered, and the path to where the descent is: each pair is a successor of
+// the one below it.
 #[derive(Drop)]
 pub(crate) struct Descent {
     pub entered: Vec<bool>,
@@ -140,8 +143,8 @@ impl Descent {
             marks[visit.place] = Some(visit.rank);
             return Ok(());
         }
-        // The pair read next is on the path, or leads to the core: so all of the path leads to the core, and none of it
-        // ever has a rank.
+        // The pair read next is on the path, or leads to the core: so all of the path leads to the
+        // core, and none of it ever has a rank.
         if self.entered[visit.next] {
             self.path.clear();
             return Ok(());

@@ -20,8 +20,8 @@ use srs_wit::WitSet;
 use std::alloc::Global;
 use std::marker::Model;
 
-/// The witnesses of a cell, strictly ascending, and the edges between them: for each pair a row of the places of its
-/// successors, which stand side by side.
+/// The witnesses of a cell, strictly ascending, and the edges between them: for each pair a row of
+/// the places of its successors, which stand side by side.
 #[derive(Drop)]
 pub struct Graph {
     pairs: Vec<V2>,

@@ -1,5 +1,5 @@
-//! The graph of a cell: its witnesses, and the edges between them. From it come the core, the ranks and the chosen
-//! cycle.
+//! The graph of a cell: its witnesses, and the edges between them. From it come the core, the ranks
+//! and the chosen cycle.
 #![tactic(auto)]
 
 mod descent;

@@ -1,4 +1,5 @@
-// Ranks by peeling: a pair has its rank as soon as all its successors have theirs. What can't be peeled is the core.
+// Ranks by peeling: a pair has its rank as soon as all its successors have theirs. What can't be
+// peeled is the core.
 ghost use Rattle.std.specs.Prelude.{◌≡◌, ◌<◌, ◌≤◌, length, IfOk};
 ghost use Rattle.srs_graph.specs.Networks.{AreRows};
 ghost use Rattle.srs_graph.specs.Marks.{HasNoMarks, IsPeeled};

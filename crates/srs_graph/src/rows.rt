@@ -1,5 +1,5 @@
-// The successors of a pair. They begin with its second entry, and their second entries are the whole numbers of a span:
-// so they stand side by side in the ascending list of all witnesses.
+// The successors of a pair. They begin with its second entry, and their second entries are the
+// whole numbers of a span: so they stand side by side in the ascending list of all witnesses.
 ghost use Rattle.std.specs.Prelude.{◌≡◌, ◌<◌, ◌^◌, pos, ◌+ℤ◌, ◌≤ℤ◌, length, Contains, AllPairs, All, IfOk};
 ghost use Rattle.srs_num.specs.Points.{IsWithin};
 ghost use Rattle.srs_map.specs.Step.{pair, IsNarrow};

@@ -46,7 +46,8 @@ impl Extent {
         }
     }
 
-    /// The least whole number that splits the cell: the least one above the infimum, where it isn't above all values.
+    /// The least whole number that splits the cell: the least one above the infimum, where it isn't
+    /// above all values.
     pub fn first_level(&self) -> Option<i64>
         requires { IsExtentSized self.now }
         ensures { (R : Area) (f : LinearForm) → IsExtent R f self.now → MatchOption result

@@ -10,9 +10,9 @@ use srs_num::Form;
 // The lines are at least 1 / 2^36 apart.
 const FINEST: u32 = 36;
 
-/// The form of the first grid line that divides the cell: of the lines 2^m*x = k and 2^m*y = k, with m from 0 to 36, the
-/// one with the least m, then with x before y, then with the least k. It takes no memory. It costs four bounds of a
-/// form, and a few divisions.
+/// The form of the first grid line that divides the cell: of the lines 2^m*x = k and 2^m*y = k,
+/// with m from 0 to 36, the one with the least m, then with x before y, then with the least k. It
+/// takes no memory. It costs four bounds of a form, and a few divisions.
 pub fn line(cell: &Cell) -> Option<Form>
     ensures some { IfSome result (IsFirstGridLine cell.now) }
     ensures none { IfNone result (HasNoGridLine cell.now) }

@@ -1,5 +1,6 @@
 // Cycles by the first entries of their pairs.
-ghost use Rattle.std.specs.Prelude.{◌≡◌, ◌≢◌, ◌↔◌, ◌<◌, length, slice_get, Some, All, IsTrue, IfSome, IfNone, IfOk, IsSome};
+ghost use Rattle.std.specs.Prelude.{◌≡◌, ◌≢◌, ◌↔◌, ◌<◌, length, slice_get, Some, All, IsTrue};
+ghost use Rattle.std.specs.Prelude.{IfSome, IfNone, IfOk, IsSome};
 ghost use Rattle.srs_num.specs.Points.{IsWithin};
 ghost use Rattle.srs_map.specs.declared.steps.TheConstants.{MOST_ENTRY};
 ghost use Rattle.srs_map.specs.Step.{pair, origin};
@@ -13,8 +14,8 @@ use srs_text::Nums;
 use std::alloc::Global;
 use std::marker::Model;
 
-/// The first entries `a_0 .. a_(n-1)` of the pairs of a cycle: 1 to `MOST_WITNESSES` numbers within `MOST_ENTRY`, where
-/// `a_0` and the next one, counted round, aren't both 0.
+/// The first entries `a_0 .. a_(n-1)` of the pairs of a cycle: 1 to `MOST_WITNESSES` numbers within
+/// `MOST_ENTRY`, where `a_0` and the next one, counted round, aren't both 0.
 #[derive(Drop)]
 pub struct Cycle {
     entries: Nums,

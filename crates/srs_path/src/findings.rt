@@ -114,8 +114,8 @@ impl Finding {
         }
     }
 
-    /// An owner of the outcome, and the finding, which has it in common with the owner. An `Err` is want of memory, and gives
-    /// the finding back.
+    /// An owner of the outcome, and the finding, which has it in common with the owner. An `Err` is
+    /// want of memory, and gives the finding back.
     pub fn share_outcome(self, alloc: Global) -> Result<(Arc<Outcome>, Finding), Finding>
         ensures owner { IfOk result (λ shared. arc_value shared.0 ≡ self.outcome) }
         ensures finding { IfOk result (λ shared. shared.1 ≡ self) }

@@ -23,8 +23,9 @@ pub enum Last {
     Cells,
 }
 
-/// The greatest depth of a cell (0 to `MOST_DEPTH`), the most cells (1 to `MOST_CELLS`), and the most witnesses of a cell
-/// (1 to `MOST_WITNESSES`); the product of the last two is at most `MOST_PRODUCT`.
+/// The greatest depth of a cell (0 to `MOST_DEPTH`), the most cells (1 to `MOST_CELLS`), and the
+/// most witnesses of a cell (1 to `MOST_WITNESSES`); the product of the last two is at most
+/// `MOST_PRODUCT`.
 #[derive(Clone, Copy, Debug, PartialEq, Eq, Drop)]
 pub struct Limits {
     depth: u32,
@@ -97,8 +98,8 @@ impl Limits {
         self.wits
     }
 
-    /// Which limit is spent in the round, of `cells` cells so far with `pending` more that may each be cut in two: at most
-    /// 2^32 of either. `None`: neither is.
+    /// Which limit is spent in the round, of `cells` cells so far with `pending` more that may each
+    /// be cut in two: at most 2^32 of either. `None`: neither is.
     pub fn last(&self, round: u32, cells: u64, pending: u64) -> Option<Last>
         requires cells { cells ≤ 2 ^ 32 }
         requires pending { pending ≤ 2 ^ 32 }

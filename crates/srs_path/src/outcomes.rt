@@ -12,8 +12,8 @@ pub enum Why {
     Witness,
 }
 
-/// The cause of a cell that is left: the depth or the number of cells is spent, no grid line divides it, or want of
-/// memory.
+/// The cause of a cell that is left: the depth or the number of cells is spent, no grid line
+/// divides it, or want of memory.
 #[derive(Clone, Copy, Debug, PartialEq, Eq, Drop)]
 pub enum Cause {
     Depth(Why),
@@ -22,8 +22,8 @@ pub enum Cause {
     Memory,
 }
 
-/// What was found of a cell: it is finite with these ranks of its witnesses, it has this cycle at every point, a form
-/// divides it, or it is left with a cause.
+/// What was found of a cell: it is finite with these ranks of its witnesses, it has this cycle at
+/// every point, a form divides it, or it is left with a cause.
 #[derive(Drop)]
 pub enum Outcome {
     Inside(Ranks),

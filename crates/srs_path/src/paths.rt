@@ -1,5 +1,6 @@
 // Paths to the cells of a tree of cuts.
-ghost use Rattle.std.specs.Prelude.{◌≡◌, ◌<◌, ◌≤◌, [], ◌∷◌, ◌++◌, length, slice_get, Some, ◌↔◌, IsTrue, MatchOption, IsSome};
+ghost use Rattle.std.specs.Prelude.{◌≡◌, ◌<◌, ◌≤◌, [], ◌∷◌, ◌++◌, length, slice_get, Some, ◌↔◌};
+ghost use Rattle.std.specs.Prelude.{IsTrue, MatchOption, IsSome};
 ghost use Rattle.srs_path.specs.declared.limits.TheConstants.{MOST_DEPTH};
 ghost use Rattle.srs_path.specs.declared.paths.Side.{Side};
 ghost use Rattle.srs_path.specs.Paths.{digit_of};

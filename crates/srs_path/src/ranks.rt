@@ -1,5 +1,7 @@
 // The ranks of a cell's witnesses.
-ghost use Rattle.std.specs.Prelude.{◌≡◌, ◌↔◌, ◌<◌, pos, ◌≤ℤ◌, length, slice_get, Some, All, AllPairs, IsTrue, IfSome, IfNone, IfOk, IsSome, MatchOption, Contains, ℕ};
+ghost use Rattle.std.specs.Prelude.{◌≡◌, ◌↔◌, ◌<◌, pos, ◌≤ℤ◌, length, slice_get, Some, All};
+ghost use Rattle.std.specs.Prelude.{AllPairs, IsTrue, IfSome, IfNone, IfOk, IsSome, MatchOption};
+ghost use Rattle.std.specs.Prelude.{Contains, ℕ};
 ghost use Rattle.srs_map.specs.Step.{IsNarrow};
 ghost use Rattle.srs_path.specs.Core.{Precedes};
 ghost use Rattle.srs_path.specs.Lists.{MakesRanks, IsRankList, ranked};
@@ -13,8 +15,8 @@ use srs_text::Nums;
 use std::alloc::Global;
 use std::marker::Model;
 
-/// Pairs with their ranks: 1 to `MOST_WITNESSES` of them, pairs strictly ascending with entries within `MOST_ENTRY`, ranks
-/// 0 to `MOST_WITNESSES`.
+/// Pairs with their ranks: 1 to `MOST_WITNESSES` of them, pairs strictly ascending with entries
+/// within `MOST_ENTRY`, ranks 0 to `MOST_WITNESSES`.
 #[derive(Drop)]
 pub struct Ranks {
     pairs: Pairs,

@@ -1,9 +1,12 @@
 // Convex polygons.
-ghost use Rattle.std.specs.Prelude.{◌≡◌, ◌≢◌, ◌+◌, ◌%◌, ◌<◌, ◌^◌, ◌≤◌, pos, ◌-ℤ◌, ◌*ℤ◌, ◌<ℤ◌, ◌↔◌, length, IsTrue, IfOk, IfErr, OnOk};
+ghost use Rattle.std.specs.Prelude.{◌≡◌, ◌≢◌, ◌+◌, ◌%◌, ◌<◌, ◌^◌, ◌≤◌, pos, ◌-ℤ◌, ◌*ℤ◌, ◌<ℤ◌, ◌↔◌};
+ghost use Rattle.std.specs.Prelude.{length, IsTrue, IfOk, IfErr, OnOk};
 ghost use Rattle.std.specs.Bool.{MatchBool};
 ghost use Rattle.srs_num.specs.Points.{value, IsNear, IsWithin};
 ghost use Rattle.srs_num.specs.Lines.{edge_form};
-ghost use Rattle.srs_plane.specs.Polygons.{point_of, vertex_at, edge_at, HasSmallDenominator, TurnsLeft, TurnsWrong, IsCounted, HaveSmallDenominators, AreNear, IsPolygon, IsPolygonErr, region_of};
+ghost use Rattle.srs_plane.specs.Polygons.{point_of, vertex_at, edge_at, HasSmallDenominator};
+ghost use Rattle.srs_plane.specs.Polygons.{TurnsLeft, TurnsWrong, IsCounted, HaveSmallDenominators};
+ghost use Rattle.srs_plane.specs.Polygons.{AreNear, IsPolygon, IsPolygonErr, region_of};
 ghost use Rattle.srs_plane.specs.Placed.{IsPlaced};
 ghost use Rattle.srs_plane.specs.Regions.{HasPoint};
 
@@ -28,7 +31,8 @@ pub struct Vertex {
 }
 
 impl Vertex {
-    /// Whether the denominator is 1 to `MOST_VERTEX_DENOMINATOR` and both coordinates are at most 4 in magnitude. It takes no memory.
+    /// Whether the denominator is 1 to `MOST_VERTEX_DENOMINATOR` and both coordinates are at most 4
+    /// in magnitude. It takes no memory.
     pub fn is_placed(&self) -> bool
         ensures { IsTrue result ↔ IsPlaced self.now }
     {
@@ -56,8 +60,8 @@ pub enum PolyErr {
     NoMemory,
 }
 
-/// The region of the convex polygon with these vertices, whose inside stands to the left of each edge. The refusals
-/// stand in the order of `PolyErr`, each with the least index.
+/// The region of the convex polygon with these vertices, whose inside stands to the left of each
+/// edge. The refusals stand in the order of `PolyErr`, each with the least index.
 pub fn polygon(alloc: Global, vs: &[Vertex]) -> Result<Region, PolyErr>
     ensures ok { IfOk result (λ region. region ≡ region_of vs.now) }
     ensures polygon { OnOk result (IsPolygon vs.now) }

@@ -1,5 +1,6 @@
 // Regions: lists of halves.
-ghost use Rattle.std.specs.Prelude.{◌≡◌, ◌+◌, ◌<◌, ◌≤◌, ◌↔◌, [], ◌∷◌, ◌++◌, length, slice_get, Some, IsTrue, IfOk, pos, ◌≤ℤ◌};
+ghost use Rattle.std.specs.Prelude.{◌≡◌, ◌+◌, ◌<◌, ◌≤◌, ◌↔◌, [], ◌∷◌, ◌++◌, length, slice_get};
+ghost use Rattle.std.specs.Prelude.{Some, IsTrue, IfOk, pos, ◌≤ℤ◌};
 ghost use Rattle.std.specs.List.{AllByRecursion};
 ghost use Rattle.srs_num.specs.Points.{Point, IsNear, value};
 ghost use Rattle.srs_plane.specs.Regions.{IsIn, IsInHalf};
@@ -19,8 +20,9 @@ use std::sync::ledger::Ledger;
 /// The most halves of a region: 16 of a polygon, 16 of one that is asked about, and 48 cuts.
 pub const MOST_HALVES: u32 = 80;
 
-/// A convex region: the points in all of its 3 to `MOST_HALVES` halves. Each has `|x| <= 4` and `|y| <= 4`. It shares its halves
-/// with its copies, and all but the last with the region that it was made from.
+/// A convex region: the points in all of its 3 to `MOST_HALVES` halves. Each has `|x| <= 4` and
+/// `|y| <= 4`. It shares its halves with its copies, and all but the last with the region that it
+/// was made from.
 #[derive(Drop)]
 pub struct Region {
     chain: Arc<Chain>,
@@ -120,7 +122,8 @@ impl Region {
         all_hold(&self.chain, r, steps)
     }
 
-    /// Whether the corner, which is in the halves with their edges, is in each half. It looks at the open edges alone.
+    /// Whether the corner, which is in the halves with their edges, is in each half. It looks at
+    /// the open edges alone.
     pub fn has_corner(&self, corner: &Corner) -> bool
         requires { AllByRecursion (λ h. pos 0 ≤ℤ value h.form corner.now) self.now }
         ensures { IsTrue result ↔ AllByRecursion (λ h. IsInHalf h corner.now) self.now }

@@ -124,7 +124,8 @@ fn lines_that_turn(rt: HostRuntime) {
     assert_eq!(rt; turned((1, 1, 0), (2, 2, 5)), Some((0, None)));
 }
 
-// The value of the form, and of its opposite, at the corner where x = 2 and y = 3; none where they are no forms.
+// The value of the form, and of its opposite, at the corner where x = 2 and y = 3; none where they
+// are no forms.
 fn values(a: i64, b: i64, c: i64) -> Option<(i128, i128)> {
     let corner = cross(&Form::new(1, 0, -2)?, &Form::new(0, 1, -3)?)?;
     let form = Form::new(a, b, c)?;

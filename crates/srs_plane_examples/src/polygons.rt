@@ -97,7 +97,8 @@ fn vertex_range_ends(rt: HostRuntime) -> Result<(), Fail> {
     Ok(())
 }
 
-// Of a copy and of the region with its first half once more: how many halves, and whether they are the region's.
+// Of a copy and of the region with its first half once more: how many halves, and whether they are
+// the region's.
 fn sizes(alloc: Global, region: &Region) -> Result<[(u32, bool); 2], Fail> {
     let count = region.len();
     if count == 0 || count >= 80 {

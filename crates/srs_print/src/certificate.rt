@@ -1,7 +1,8 @@
 // The text of a certificate.
 ghost use Rattle.std.specs.Prelude.{◌≡◌, ◌++◌, [], ◌∷◌, codes, OnOk, OnErr};
 ghost use Rattle.std.specs.List.{flat_map};
-ghost use Rattle.srs_cert.specs.Texts.{count_text, vertex_text, ring_text, limits_text, head_text, outcome_text};
+ghost use Rattle.srs_cert.specs.Texts.{count_text, vertex_text, ring_text, limits_text, head_text};
+ghost use Rattle.srs_cert.specs.Texts.{outcome_text};
 ghost use Rattle.srs_cert.specs.Certificates.{outcomes_of, cert_text};
 ghost use Rattle.srs_print.specs.Fronts.{StopsIn};
 
@@ -13,7 +14,8 @@ use srs_plane::Vertex;
 use srs_text::{Bytes, NoMemory};
 use srs_tree::Journal;
 
-/// Appends the text of the certificate. An `Err` is want of memory, and leaves a front of the text behind what was there.
+/// Appends the text of the certificate. An `Err` is want of memory, and leaves a front of the text
+/// behind what was there.
 pub fn put_cert(out: &mut Bytes, c: &Cert) -> Result<(), NoMemory>
     ensures ok { OnOk result (out.new ≡ out.old ++ cert_text c.now) }
     ensures err { OnErr result (StopsIn out.old (cert_text c.now) out.new) }

@@ -29,8 +29,8 @@ pub fn put_count(out: &mut Bytes, word: &[u8], n: u64) -> Result<(), NoMemory>
     out.extend(b"\n")
 }
 
-/// Appends the word and the numbers, each with a space before it, and no LF. An `Err` is want of memory, and leaves a front
-/// of that behind what was there.
+/// Appends the word and the numbers, each with a space before it, and no LF. An `Err` is want of
+/// memory, and leaves a front of that behind what was there.
 pub fn put_words(out: &mut Bytes, word: &[u8], numbers: &[i64]) -> Result<(), NoMemory>
     ensures ok { OnOk result (out.new ≡ out.old ++ line_of word.now numbers.now) }
     ensures err { OnErr result (StopsIn out.old (line_of word.now numbers.now) out.new) }

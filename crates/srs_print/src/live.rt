@@ -3,7 +3,8 @@ ghost use Rattle.std.specs.Prelude.{◌≡◌, ◌++◌, ◌∷◌, codes, OnOk,
 ghost use Rattle.std.specs.List.{flat_map};
 ghost use Rattle.srs_cert.specs.Texts.{count_text, ended, cause_text};
 ghost use Rattle.srs_cert.specs.Sayings.{said_text};
-ghost use Rattle.srs_cert.specs.Lives.{side_word, path_text, outcome_line, event_text, journal_text, session_text, sessions_text, live_text};
+ghost use Rattle.srs_cert.specs.Lives.{side_word, path_text, outcome_line, event_text};
+ghost use Rattle.srs_cert.specs.Lives.{journal_text, session_text, sessions_text, live_text};
 ghost use Rattle.srs_print.specs.Fronts.{StopsIn};
 
 use crate::certificate::put_cert;
@@ -15,8 +16,8 @@ use srs_path::{Cause, Event, Outcome, Path, Side};
 use srs_text::{Bytes, NoMemory};
 use srs_tree::{Journal, Run, Transcript, Transcripts};
 
-/// Appends the text of the run: its journal, what each session was told, and the certificate. An `Err` is want of memory,
-/// and leaves a front of the text behind what was there.
+/// Appends the text of the run: its journal, what each session was told, and the certificate. An
+/// `Err` is want of memory, and leaves a front of the text behind what was there.
 pub fn put_live(out: &mut Bytes, run: &Run, c: &Cert) -> Result<(), NoMemory>
     ensures ok { OnOk result
         (out.new ≡ out.old ++ live_text run.now.journal run.now.transcripts c.now) }

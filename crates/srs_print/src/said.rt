@@ -1,7 +1,8 @@
 // The lines of what is said.
 ghost use Rattle.std.specs.Prelude.{◌≡◌, ◌++◌, ◌∷◌, OnOk, OnErr};
 ghost use Rattle.srs_tree.specs.Answers.{reply_of};
-ghost use Rattle.srs_cert.specs.Sayings.{open_text, reply_text, place_text, answer_text, word_if, met_text, orbit_text, said_text};
+ghost use Rattle.srs_cert.specs.Sayings.{open_text, reply_text, place_text, answer_text, word_if};
+ghost use Rattle.srs_cert.specs.Sayings.{met_text, orbit_text, said_text};
 ghost use Rattle.srs_print.specs.Fronts.{StopsIn};
 
 use crate::line::{put_count, put_line, put_words};
@@ -12,7 +13,8 @@ use srs_path::Cause;
 use srs_text::{Bytes, NoMemory};
 use srs_tree::{Answer, Met, Said};
 
-/// Appends the line of what is said. An `Err` is want of memory, and leaves a front of the line behind what was there.
+/// Appends the line of what is said. An `Err` is want of memory, and leaves a front of the line
+/// behind what was there.
 pub fn put_said(out: &mut Bytes, s: &Said) -> Result<(), NoMemory>
     ensures ok { OnOk result (out.new ≡ out.old ++ said_text s.now) }
     ensures err { OnErr result (StopsIn out.old (said_text s.now) out.new) }
@@ -27,8 +29,8 @@ pub fn put_said(out: &mut Bytes, s: &Said) -> Result<(), NoMemory>
     }
 }
 
-/// Appends the line of the answer at the point. An `Err` is want of memory, and leaves a front of the line behind what was
-/// there.
+/// Appends the line of the answer at the point. An `Err` is want of memory, and leaves a front of
+/// the line behind what was there.
 pub fn put_answer(out: &mut Bytes, r: &Pt, answer: &Answer<'_>) -> Result<(), NoMemory>
     ensures ok { OnOk result (out.new ≡ out.old ++ answer_text r.now (reply_of answer.now)) }
     ensures err { OnErr result (StopsIn out.old (answer_text r.now (reply_of answer.now)) out.new) }

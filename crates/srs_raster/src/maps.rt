@@ -15,9 +15,10 @@ use std::alloc::Global;
 use std::marker::Brand;
 use std::sync::ledger::{Blank, Ledger};
 
-/// The map of the version whose polygon has these vertices: `h` lines of `w` characters, each 1 to 200, from the top. They
-/// stand for the middles of equal boxes over the least frame of whole 64ths that holds the polygon: `#` inside, `o`
-/// outside, `?` undecided, `.` beyond the polygon. An `Err` is want of memory.
+/// The map of the version whose polygon has these vertices: `h` lines of `w` characters, each 1 to
+/// 200, from the top. They stand for the middles of equal boxes over the least frame of whole 64ths
+/// that holds the polygon: `#` inside, `o` outside, `?` undecided, `.` beyond the polygon. An `Err`
+/// is want of memory.
 pub fn map_text(
     alloc: Global,
     v: &Version,

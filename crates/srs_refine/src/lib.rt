@@ -1,5 +1,5 @@
-//! The outcome of one cell: it is finite with ranks, it has one cycle at every point, a form divides it, or it is left
-//! with a cause.
+//! The outcome of one cell: it is finite with ranks, it has one cycle at every point, a form
+//! divides it, or it is left with a cause.
 #![tactic(auto)]
 
 mod refinement;

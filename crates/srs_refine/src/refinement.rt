@@ -30,7 +30,8 @@ impl Refiner {
         Ok(Refiner { searcher })
     }
 
-    /// As the function of this name, for one cell after another. After an `Err` too it may be used for other cells.
+    /// As the function of this name, for one cell after another. After an `Err` too it may be used
+    /// for other cells.
     pub fn refine(
         &mut self,
         alloc: Global,
@@ -72,11 +73,13 @@ impl Refiner {
     }
 }
 
-/// The outcome of the cell, for a bound `w` from 1 to `MOST_WITNESSES` on its witnesses, where `last` is the limit that is spent.
+/// The outcome of the cell, for a bound `w` from 1 to `MOST_WITNESSES` on its witnesses, where
+/// `last` is the limit that is spent.
 ///
-/// A small cell is inside where its core is empty, and outside where its chosen cycle covers it. Any other cell is left
-/// where a limit is spent. Else a small one is cut by the first form of its cutout that divides it, and one that isn't
-/// small by its first grid line; with no such line it is left as thin. An `Err` is want of memory.
+/// A small cell is inside where its core is empty, and outside where its chosen cycle covers it.
+/// Any other cell is left where a limit is spent. Else a small one is cut by the first form of its
+/// cutout that divides it, and one that isn't small by its first grid line; with no such line it is
+/// left as thin. An `Err` is want of memory.
 pub fn refine(alloc: Global, cell: &Cell, last: Option<Last>, w: u32) -> Result<Finding, NoMemory>
     requires some { 1 ≤ w }
     requires few { w ≤ MOST_WITNESSES }
@@ -127,8 +130,8 @@ fn of_small(
     Ok(of_cycle(cell, cycle, last))
 }
 
-// The outcome of a small cell with this chosen cycle. Each edge of the cycle is taken at some point of the cell, so
-// where the cycle doesn't cover the cell, a form of its cutout divides it.
+// The outcome of a small cell with this chosen cycle. Each edge of the cycle is taken at some point
+// of the cell, so where the cycle doesn't cover the cell, a form of its cutout divides it.
 fn of_cycle(cell: &Cell, cycle: Cycle, last: Option<Last>) -> Outcome
     requires { IsChosen cell.now cycle }
     ensures { (W : ℕ) → IsSmall cell.now W → Refines cell.now last W result }

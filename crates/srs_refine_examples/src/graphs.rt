@@ -15,8 +15,8 @@ use std::test::Fail;
 // A polygon, the core, and the chosen cycle.
 type Row = (Polygon, &'static [(i64, i64)], Option<&'static [i64]>);
 
-// In the second the least pair of the core only leads to the cycle; in the third the core has all witnesses but (0, 0), and
-// (1, 0) and (0, 1) lead to each other, as (-1, 0) and (0, -1) do.
+// In the second the least pair of the core only leads to the cycle; in the third the core has all
+// witnesses but (0, 0), and (1, 0) and (0, 1) lead to each other, as (-1, 0) and (0, -1) do.
 const CORES: [Row; 3] = [
     (CORNER, &[], None),
     (CYCLE_ONE, &[(0, 1), (1, 0), (1, 1)], Some(&[1])),
@@ -210,8 +210,8 @@ fn the_cutout_of_a_cycle(rt: HostRuntime) -> Result<(), Fail> {
 // Where a cycle breaks first, and the numbers of the form that divides the cell there.
 type Failure = (u32, Option<(i64, i64, i64)>);
 
-// A polygon, and how the cycle 1 fails; none where it covers the cell. In the corner x + y is at least 0, round (0, 0) it is
-// of both signs.
+// A polygon, and how the cycle 1 fails; none where it covers the cell. In the corner x + y is at
+// least 0, round (0, 0) it is of both signs.
 const FAILURES: [(Polygon, Option<Failure>); 3] = [
     (CYCLE_ONE, None),
     (CORNER, Some((0, None))),

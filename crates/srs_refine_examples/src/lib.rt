@@ -1,5 +1,6 @@
-//! Worked examples of the calls of srs_path, srs_cut, srs_grid, srs_wit, srs_graph and srs_refine: each call once with ample
-//! memory, its answer compared with a value from outside. A table a subject.
+//! Worked examples of the calls of srs_path, srs_cut, srs_grid, srs_wit, srs_graph and srs_refine:
+//! each call once with ample memory, its answer compared with a value from outside. A table a
+//! subject.
 #![tactic(auto)]
 
 #[cfg(test)]

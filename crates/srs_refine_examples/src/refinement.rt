@@ -104,8 +104,8 @@ fn left_cells(rt: HostRuntime) -> Result<(), Fail> {
 // A polygon and cuts, and the first grid line.
 type LineRow = (Polygon, &'static [Cut], Option<(i64, i64, i64)>);
 
-// x = 0 goes before y = 0; x is below 1/8 and y below 0; the closed corner has points with x = 1/8, the open one doesn't; no
-// line divides a single point.
+// x = 0 goes before y = 0; x is below 1/8 and y below 0; the closed corner has points with x = 1/8,
+// the open one doesn't; no line divides a single point.
 const LINES: [LineRow; 5] = [
     (SPLIT, &[], Some((1, 0, 0))),
     (SPLIT, &[RIGHT, DOWN], Some((16, 0, -1))),

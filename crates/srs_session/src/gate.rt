@@ -1,9 +1,9 @@
 // Where workers and sessions call before each of their steps.
 use std::sync::Wait;
 
-/// A worker calls before each commit, with its number, from 1 on, and the number that it drew; a session before each question,
-/// with its number, from 101 on, and the place of the question. A gate answers nothing: it may only make its callers wait, as
-/// tests do that fix a schedule.
+/// A worker calls before each commit, with its number, from 1 on, and the number that it drew; a
+/// session before each question, with its number, from 101 on, and the place of the question. A
+/// gate answers nothing: it may only make its callers wait, as tests do that fix a schedule.
 pub trait Gate: Sync {
     fn turn<R: Wait>(&self, rt: &R, who: u32, piece: u64);
 }

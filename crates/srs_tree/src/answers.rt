@@ -6,8 +6,8 @@ use srs_num::NoMemory;
 use srs_path::{Cause, Cycle, Outcome};
 use std::alloc::Global;
 
-/// What a version says of a point: it is in a cell that is inside, or outside with this cycle; its cell is undecided,
-/// with the cause where the cell has one; or it is beyond the version's region.
+/// What a version says of a point: it is in a cell that is inside, or outside with this cycle; its
+/// cell is undecided, with the cause where the cell has one; or it is beyond the version's region.
 #[derive(Clone, Copy, Drop)]
 pub enum Answer<'v> {
     Inside,

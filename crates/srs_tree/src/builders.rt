@@ -13,8 +13,8 @@ use srs_path::{Finding, Path};
 use std::alloc::Global;
 use std::marker::Model;
 
-/// A tree that one owner makes, outcome by outcome, and of which a version is made at the end. It keeps what a version
-/// keeps.
+/// A tree that one owner makes, outcome by outcome, and of which a version is made at the end. It
+/// keeps what a version keeps.
 #[derive(Drop)]
 pub struct TreeBuilder {
     tree: GrowingTree,
@@ -48,9 +48,10 @@ impl TreeBuilder {
         self.tree.root()
     }
 
-    /// The outcome of the finding is entered at the path, which is an open cell, and the finding is of its region; a cut's path
-    /// is shorter than 48. The cell is looked for first at the place `near`, where a `Pending` says that it is. It gives the
-    /// two cells that a cut makes, Ge first. An `Err` is want of memory, and leaves the tree as it was.
+    /// The outcome of the finding is entered at the path, which is an open cell, and the finding is
+    /// of its region; a cut's path is shorter than 48. The cell is looked for first at the place
+    /// `near`, where a `Pending` says that it is. It gives the two cells that a cut makes, Ge
+    /// first. An `Err` is want of memory, and leaves the tree as it was.
     pub fn add(
         &mut self,
         alloc: Global,

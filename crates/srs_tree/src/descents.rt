@@ -7,8 +7,8 @@ use crate::nodes::{Node, Nodes};
 use srs_num::{Pt, Steps};
 use std::sync::ledger::Ledger;
 
-// The leaf that holds the point, if the root does. It takes at most one step for each half of the root, and one for each
-// cut on the way.
+// The leaf that holds the point, if the root does. It takes at most one step for each half of the
+// root, and one for each cut on the way.
 pub(crate) fn leaf_with<'a, L: Ledger>(
     nodes: &'a Nodes,
     r: &Pt,
@@ -28,7 +28,8 @@ pub(crate) fn leaf_with<'a, L: Ledger>(
     }
 }
 
-// The leaf that holds the point, from the cell at the place `i` down, which holds it. It takes one step for each cut.
+// The leaf that holds the point, from the cell at the place `i` down, which holds it. It takes one
+// step for each cut.
 fn descend<'a, L: Ledger>(nodes: &'a Nodes, i: usize, r: &Pt, steps: &mut Steps<L>) -> &'a Node
     requires spots { AreSpots nodes.now }
     requires there { i < length nodes.now }

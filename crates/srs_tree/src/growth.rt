@@ -1,11 +1,14 @@
 // How a tree takes an outcome.
-ghost use Rattle.std.specs.Prelude.{◌≡◌, ◌+◌, ◌^◌, ◌<◌, ◌≤◌, [], ◌∷◌, ◌++◌, length, map, slice_get, Some, None, IfOk, IfErr, OnOk, OnErr};
+ghost use Rattle.std.specs.Prelude.{◌≡◌, ◌+◌, ◌^◌, ◌<◌, ◌≤◌, [], ◌∷◌, ◌++◌, length, map, slice_get};
+ghost use Rattle.std.specs.Prelude.{Some, None, IfOk, IfErr, OnOk, OnErr};
 ghost use Rattle.std.specs.Arc.{arc_value};
 ghost use Rattle.srs_plane.specs.Regions.{Divides};
 ghost use Rattle.srs_path.specs.declared.paths.Side.TheVariants.{Ge as OnGe, Lt as OnLt};
 ghost use Rattle.srs_path.specs.Soundness.{IsSound};
 ghost use Rattle.srs_tree.specs.Growth.{IsShortCut, IsTreeErr, SaysDone, SaysOther};
-ghost use Rattle.srs_tree.specs.Nodes.{Spot, AreSpots, MaySettle, IsReadyFor, IsOpenAt, part_of, parts_from, spots_from, spot_of, waiting_of, grown, snapshot_of, HasGrown};
+ghost use Rattle.srs_tree.specs.Nodes.{Spot, AreSpots, MaySettle, IsReadyFor, IsOpenAt, part_of};
+ghost use Rattle.srs_tree.specs.Nodes.{parts_from, spots_from, spot_of, waiting_of, grown};
+ghost use Rattle.srs_tree.specs.Nodes.{snapshot_of, HasGrown};
 ghost use Rattle.srs_tree.specs.Queue.{cell_in, cells_from};
 ghost use Rattle.srs_tree.specs.Rounds.{parts_by};
 ghost use Rattle.srs_tree.specs.Snapshots.{with_entry};
@@ -60,8 +63,9 @@ fn other_cell(cell: &Arc<Cell>, f: Finding) -> TreeErr
     }
 }
 
-// The outcome of the finding comes to the cell at the path, which is open and stands at the place `i`, and what came is
-// given. An `Err` is want of memory: the cells stay as they were, and the finding comes back.
+// The outcome of the finding comes to the cell at the path, which is open and stands at the place
+// `i`, and what came is given. An `Err` is want of memory: the cells stay as they were, and the
+// finding comes back.
 pub(crate) fn enter(
     nodes: &mut Nodes,
     alloc: Global,
@@ -84,8 +88,8 @@ pub(crate) fn enter(
     enter_at(nodes, alloc, i, f)
 }
 
-// The parts that the finding's outcome makes of the open cell at the path, which stands at the place `i`, as cells that wait.
-// An `Err` is want of memory.
+// The parts that the finding's outcome makes of the open cell at the path, which stands at the
+// place `i`, as cells that wait. An `Err` is want of memory.
 pub(crate) fn parts_for(
     nodes: &Nodes,
     alloc: Global,

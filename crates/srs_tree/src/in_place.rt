@@ -1,5 +1,6 @@
 // Trees that grow in place.
-ghost use Rattle.std.specs.Prelude.{◌≡◌, ◌≤◌, ◌++◌, [], ◌∷◌, length, map as map_list, IfOk, IfErr, OnOk, OnErr};
+ghost use Rattle.std.specs.Prelude.{◌≡◌, ◌≤◌, ◌++◌, [], ◌∷◌, length, map as map_list, IfOk, IfErr};
+ghost use Rattle.std.specs.Prelude.{OnOk, OnErr};
 ghost use Rattle.std.specs.Arc.{arc_value};
 ghost use Rattle.std.specs.FinMap as map;
 ghost use Rattle.srs_tree.specs.Snapshots.{with_entry};
@@ -18,8 +19,9 @@ use std::alloc::Global;
 use std::marker::Model;
 use std::sync::Arc;
 
-/// A tree that grows in place, seen as a version and the cells that have no outcome, in the order in which they were made.
-/// Versions can be had of it at any time; they share its cells, and don't change when it grows.
+/// A tree that grows in place, seen as a version and the cells that have no outcome, in the order
+/// in which they were made. Versions can be had of it at any time; they share its cells, and don't
+/// change when it grows.
 #[derive(Drop)]
 pub struct GrowingTree {
     nodes: Nodes,
@@ -64,8 +66,9 @@ impl GrowingTree {
         self.nodes.get(0).waiting(0)
     }
 
-    /// The outcome of the finding is entered at the path; a cut's path is shorter than 48. It gives an owner of the outcome,
-    /// and the two cells that a cut makes, Ge first, which then wait behind the others. An `Err` leaves the tree as it was.
+    /// The outcome of the finding is entered at the path; a cut's path is shorter than 48. It gives
+    /// an owner of the outcome, and the two cells that a cut makes, Ge first, which then wait
+    /// behind the others. An `Err` leaves the tree as it was.
     pub fn enter(&mut self, alloc: Global, path: Path, f: Finding) -> Result<Added, TreeErr>
         requires { IsShortCut path f.outcome }
         ensures may { OnOk result (MayEnter self.old.version path f) }
@@ -89,8 +92,8 @@ impl GrowingTree {
         }
     }
 
-    /// The finding, if it may be entered at the path, with the cells that a cut makes: for who has to find memory for these
-    /// before the tree grows. A cut's path is shorter than 48.
+    /// The finding, if it may be entered at the path, with the cells that a cut makes: for who has
+    /// to find memory for these before the tree grows. A cut's path is shorter than 48.
     pub fn prepare(&self, alloc: Global, path: Path, f: Finding) -> Result<Prepared, TreeErr>
         requires { IsShortCut path f.outcome }
         ensures may { OnOk result (MayEnter self.now.version path f) }
@@ -110,8 +113,8 @@ impl GrowingTree {
         }
     }
 
-    /// Enters what was prepared, and gives an owner of the outcome. An `Err` is want of memory: it gives the finding back, and
-    /// leaves the tree as it was.
+    /// Enters what was prepared, and gives an owner of the outcome. An `Err` is want of memory: it
+    /// gives the finding back, and leaves the tree as it was.
     pub fn enter_prepared(
         &mut self,
         alloc: Global,
@@ -121,7 +124,7 @@ impl GrowingTree {
         requires may { MayEnter self.old.version path prepared.finding }
         requires parts { cells_from prepared.parts
             ≡ map_list (cell_in (with_entry self.old.version path prepared.finding.outcome))
-                (parts_by path prepared.finding.outcome) }
+            (parts_by path prepared.finding.outcome) }
         ensures entered { OnOk result
             (self.new.version ≡ with_entry self.old.version path prepared.finding.outcome) }
         ensures outcome { IfOk result (λ outcome. arc_value outcome ≡ prepared.finding.outcome) }
@@ -139,7 +142,8 @@ impl GrowingTree {
         Ok(outcome)
     }
 
-    // As `enter`, where it is known that the finding may be entered; the cell is looked for at the place `near` first.
+    // As `enter`, where it is known that the finding may be entered; the cell is looked for at the
+    // place `near` first.
     pub(crate) fn enter_near(
         &mut self,
         alloc: Global,

@@ -6,10 +6,11 @@ ghost use Rattle.srs_tree.specs.Answers.{AnswersAreOne};
 ghost use Rattle.srs_tree.specs.Queue.{QueueIsOpen, QueueIsInOrder, PlannedEnds};
 ghost use Rattle.srs_tree.specs.WholeTrees.{WholeIsBounded, WholeIsListed};
 
-/// The leaves of each legal history partition its root region, where that has a point, and what each of its events claims
-/// holds of its cell. There is at most one plan. A planned history in which each cell has an event is whole, and in
-/// rounds. The queue of a legal history has exactly the cells without an event; that of a planned history is in order of
-/// depth, and where it is empty the history is whole. Exactly one snapshot stands for a legal history, and with one entry
+/// The leaves of each legal history partition its root region, where that has a point, and what
+/// each of its events claims holds of its cell. There is at most one plan. A planned history in
+/// which each cell has an event is whole, and in rounds. The queue of a legal history has exactly
+/// the cells without an event; that of a planned history is in order of depth, and where it is
+/// empty the history is whole. Exactly one snapshot stands for a legal history, and with one entry
 /// more it stands for the history with one event more.
 pub fn histories()
     ensures partition { LegalIsPartition }
@@ -23,8 +24,9 @@ pub fn histories()
     ensures grows { SnapshotsGrow }
 {}
 
-/// A whole history has at most as many cells as its limits allow, and none is deeper than they allow. In preorder its
-/// events list a whole tree within the limits: no list of ranks and no cycle is longer than the number of witnesses.
+/// A whole history has at most as many cells as its limits allow, and none is deeper than they
+/// allow. In preorder its events list a whole tree within the limits: no list of ranks and no cycle
+/// is longer than the number of witnesses.
 pub fn whole_trees()
     ensures bounded { WholeIsBounded }
     ensures listed { WholeIsListed }

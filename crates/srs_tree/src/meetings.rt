@@ -1,5 +1,6 @@
 // Which answers the points of a cell have.
-ghost use Rattle.std.specs.Prelude.{◌≡◌, ◌+◌, ◌<◌, ◌≤◌, true, false, length, slice_get, Some, None, IfOk, IfSome};
+ghost use Rattle.std.specs.Prelude.{◌≡◌, ◌+◌, ◌<◌, ◌≤◌, true, false, length, slice_get, Some, None};
+ghost use Rattle.std.specs.Prelude.{IfOk, IfSome};
 ghost use Rattle.srs_plane.specs.declared.halves.Kind.TheVariants.{Ge as IsGe, Gt as IsGt};
 ghost use Rattle.srs_plane.specs.Regions.{IsIn, IsInHalf};
 ghost use Rattle.srs_tree.specs.Nodes.{Spot, AreSpots, HoldsAll, root_of, spots_tree};
@@ -139,7 +140,8 @@ fn clipped_open(alloc: Global, cell: Cell, half: &Half) -> Result<Clip, NoMemory
     }
 }
 
-// The answers that the cell meets, which is within the region of the cell at the place `i`. An `Err` is want of memory.
+// The answers that the cell meets, which is within the region of the cell at the place `i`. An
+// `Err` is want of memory.
 fn met_below(alloc: Global, nodes: &Nodes, i: usize, cell: &Cell) -> Result<Met, NoMemory>
     requires spots { AreSpots nodes.now }
     requires there { i < length nodes.now }
@@ -154,7 +156,8 @@ fn met_below(alloc: Global, nodes: &Nodes, i: usize, cell: &Cell) -> Result<Met,
         let _ = cell.region();
         return Ok(Met::of(node.answer()));
     };
-    // Paths have at most 48 sides, also that of a part: so the calls end, and the cell has fewer than 80 halves.
+    // Paths have at most 48 sides, also that of a part: so the calls end, and the cell has fewer
+    // than 80 halves.
     let path = path_at(nodes, ge);
     let _ = path.len();
     match cell.cut(alloc, form)? {

@@ -1,8 +1,10 @@
 // The cells of a tree in the order in which they were made.
-ghost use Rattle.std.specs.Prelude.{◌≡◌, length, ◌++◌, ◌+◌, ◌<◌, ◌^◌, Some, None, IfOk, IfErr, IfSome, IfNone, MatchOption, OnOk, OnErr};
+ghost use Rattle.std.specs.Prelude.{◌≡◌, length, ◌++◌, ◌+◌, ◌<◌, ◌^◌, Some, None, IfOk, IfErr};
+ghost use Rattle.std.specs.Prelude.{IfSome, IfNone, MatchOption, OnOk, OnErr};
 ghost use Rattle.srs_num.specs.Points.{LinearForm};
 ghost use Rattle.srs_path.specs.declared.outcomes.Outcome.TheVariants.{Cut as IsCut};
-ghost use Rattle.srs_tree.specs.Nodes.{Spot, AreSpots, IsPlaceOf, part_place, spots_tree, waiting_of, spot_with, if_open, open_cells, IsPartWith};
+ghost use Rattle.srs_tree.specs.Nodes.{Spot, AreSpots, IsPlaceOf, part_place, spots_tree};
+ghost use Rattle.srs_tree.specs.Nodes.{waiting_of, spot_with, if_open, open_cells, IsPartWith};
 ghost use Rattle.srs_tree.specs.Answers.{reply_of, reply_by};
 ghost use Rattle.srs_tree.specs.Growth.{IsLongestCell};
 ghost use Rattle.srs_tree.specs.Tree.{IsCellOf};
@@ -17,7 +19,8 @@ use std::marker::Model;
 use std::sync::Arc;
 use std::sync::ledger::Ledger;
 
-// A cell of the tree. Where its outcome is a cut, the Ge part stands at the place `parts`, and the Lt part after it.
+// A cell of the tree. Where its outcome is a cut, the Ge part stands at the place `parts`, and the
+// Lt part after it.
 #[derive(Drop)]
 pub(crate) struct Node {
     path: Path,
@@ -68,7 +71,8 @@ impl Node {
         self.outcome.as_ref()
     }
 
-    // The cell with this outcome; its parts, if it has any, stand from the place `parts` on. An `Err` is want of memory.
+    // The cell with this outcome; its parts, if it has any, stand from the place `parts` on. An
+    // `Err` is want of memory.
     pub(crate) fn settled(&self, outcome: Arc<Outcome>, parts: usize) -> Result<Node, NoMemory>
         ensures { IfOk result (λ node. node ≡ spot_with self.now outcome.value parts) }
     {

@@ -7,9 +7,10 @@ use srs_cell::Cell;
 use srs_map::OrbitEnd;
 use srs_num::{Items, Kept, Pt, V2};
 
-/// A question: for the newest version, how many outcomes there are now, the answer at a point, the answers that a polygon
-/// meets (a cell of at most 16 halves), or how the first steps of a pair's orbit at a parameter end (at most 100,000, from
-/// entries within 2^37, at a parameter within 4 of both axes).
+/// A question: for the newest version, how many outcomes there are now, the answer at a point, the
+/// answers that a polygon meets (a cell of at most 16 halves), or how the first steps of a pair's
+/// orbit at a parameter end (at most 100,000, from entries within 2^37, at a parameter within 4 of
+/// both axes).
 #[derive(Drop)]
 pub enum Query {
     Fresh,
@@ -19,8 +20,8 @@ pub enum Query {
     Orbit(Pt, V2, u32),
 }
 
-/// What is said: the round of a segment, the number of the version that was taken, how many outcomes there are, and the
-/// answers to the other questions.
+/// What is said: the round of a segment, the number of the version that was taken, how many
+/// outcomes there are, and the answers to the other questions.
 #[derive(Drop)]
 pub enum Said {
     At(u32),
@@ -31,7 +32,8 @@ pub enum Said {
     Orbit(OrbitEnd),
 }
 
-/// Each question of a list is askable: a polygon's cell has at most 16 halves, and an orbit is one that `orbit` follows.
+/// Each question of a list is askable: a polygon's cell has at most 16 halves, and an orbit is one
+/// that `orbit` follows.
 pub struct Askable;
 
 impl Kept<Query> for Askable {

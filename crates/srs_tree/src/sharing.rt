@@ -5,7 +5,8 @@ use crate::{
 
 fn is_shared<T: Send + Sync>() {}
 
-/// Threads may pass versions, journals, open cells, refusals, questions and answers on and share them: that it is compiled shows it.
+/// Threads may pass versions, journals, open cells, refusals, questions and answers on and share
+/// them: that it is compiled shows it.
 pub fn shared() {
     is_shared::<Answer<'_>>();
     is_shared::<Reply>();

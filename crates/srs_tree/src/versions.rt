@@ -1,5 +1,6 @@
 // Versions of a tree.
-ghost use Rattle.std.specs.Prelude.{◌≡◌, ◌≤◌, [], length, map as map_list, None, Some, IfOk, IfErr, OnOk, OnErr, MatchOption};
+ghost use Rattle.std.specs.Prelude.{◌≡◌, ◌≤◌, [], length, map as map_list, None, Some, IfOk, IfErr};
+ghost use Rattle.std.specs.Prelude.{OnOk, OnErr, MatchOption};
 ghost use Rattle.std.specs.Arc.{arc_value};
 ghost use Rattle.std.specs.FinMap as map;
 ghost use Rattle.srs_plane.specs.Regions.{IsIn};
@@ -27,16 +28,17 @@ use std::marker::Model;
 use std::sync::Arc;
 use std::sync::ledger::Ledger;
 
-/// A region of at most 16 halves, and the outcomes that were found of the cells of its tree. Each path with an outcome is
-/// the root, or its parent has a cut; and each outcome that is inside, outside or a cut is sound on its cell.
+/// A region of at most 16 halves, and the outcomes that were found of the cells of its tree. Each
+/// path with an outcome is the root, or its parent has a cut; and each outcome that is inside,
+/// outside or a cut is sound on its cell.
 #[derive(Drop)]
 pub struct Version {
     nodes: Nodes,
     count: u64,
 }
 
-/// A version with one entry more, and what came with the entry: an owner of its outcome, and the two cells that a cut
-/// makes, Ge first.
+/// A version with one entry more, and what came with the entry: an owner of its outcome, and the
+/// two cells that a cut makes, Ge first.
 #[derive(Drop)]
 pub struct Grown {
     pub version: Version,
@@ -103,8 +105,8 @@ impl Version {
         outcome_at(&self.nodes, &path)
     }
 
-    /// The answer at the point. It takes at most one step for each of the region's halves, and one for each cut on the way
-    /// to the leaf that holds the point; no memory.
+    /// The answer at the point. It takes at most one step for each of the region's halves, and one
+    /// for each cut on the way to the leaf that holds the point; no memory.
     pub fn locate<'v, L: Ledger>(&'v self, r: &Pt, steps: &mut Steps<L>) -> Answer<'v>
         ensures answer { Answers self.now.region (tree_of self.now) r.now (reply_of result) }
         ensures at_most { IsDescent self.now.region (tree_of self.now) r.now steps.old steps.new }
@@ -115,8 +117,8 @@ impl Version {
         }
     }
 
-    /// The path of the leaf that holds the point. `None` exactly where the answer is beyond. The steps are those of
-    /// `locate`.
+    /// The path of the leaf that holds the point. `None` exactly where the answer is beyond. The
+    /// steps are those of `locate`.
     pub fn leaf<L: Ledger>(&self, r: &Pt, steps: &mut Steps<L>) -> Option<Path>
         ensures leaf { MatchOption result (IsIn self.now.region r.now → ⊥)
             (λ path. HoldsAt self.now.region (tree_of self.now) r.now path) }
@@ -128,8 +130,8 @@ impl Version {
         }
     }
 
-    /// For each kind of answer, whether some point of the cell has it, for a cell of at most 16 halves. An `Err` is want of
-    /// memory.
+    /// For each kind of answer, whether some point of the cell has it, for a cell of at most 16
+    /// halves. An `Err` is want of memory.
     pub fn meet(&self, alloc: Global, q: &Cell) -> Result<Met, NoMemory>
         requires { length q.now ≤ 16 }
         ensures { IfOk result (λ met. IsMet self.now.region (tree_of self.now) q.now met) }
@@ -147,7 +149,8 @@ impl Version {
         })
     }
 
-    /// The outcomes as events in preorder: a cell's, then those below its Ge part, then those below its Lt part.
+    /// The outcomes as events in preorder: a cell's, then those below its Ge part, then those below
+    /// its Lt part.
     pub fn preorder(&self, alloc: Global) -> Result<Journal, NoMemory>
         ensures { IfOk result (λ events. events ≡ preorder_of self.now) }
     {
@@ -157,9 +160,10 @@ impl Version {
         Ok(events)
     }
 
-    /// The version with the outcome of the finding entered at the path; a cut's path is shorter than 48. With it come an owner
-    /// of the outcome, and the two cells that a cut makes, Ge first. This version stays as it is. The refusals but want of
-    /// memory come before anything of the new version is made.
+    /// The version with the outcome of the finding entered at the path; a cut's path is shorter
+    /// than 48. With it come an owner of the outcome, and the two cells that a cut makes, Ge first.
+    /// This version stays as it is. The refusals but want of memory come before anything of the new
+    /// version is made.
     pub fn grown(&self, alloc: Global, path: Path, f: Finding) -> Result<Grown, TreeErr>
         requires { IsShortCut path f.outcome }
         ensures may { OnOk result (MayEnter self.now path f) }

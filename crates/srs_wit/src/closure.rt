@@ -1,5 +1,6 @@
 // The search for all witnesses of a cell.
-ghost use Rattle.std.specs.Prelude.{◌≡◌, ℕ, ◌+◌, ◌<◌, ◌≤◌, ◌^◌, false, [], take, List, Bool, MatchOption, IfSome, OnOk, IfOk, IfErr};
+ghost use Rattle.std.specs.Prelude.{◌≡◌, ℕ, ◌+◌, ◌<◌, ◌≤◌, ◌^◌, false, [], take, List, Bool};
+ghost use Rattle.std.specs.Prelude.{MatchOption, IfSome, OnOk, IfOk, IfErr};
 ghost use Rattle.srs_map.specs.Step.{IsNarrow};
 ghost use Rattle.srs_num.specs.declared.pairs.V2.{V2};
 ghost use Rattle.srs_plane.specs.Regions.{Area};
@@ -9,7 +10,8 @@ ghost use Rattle.srs_wit.specs.Halves.{AreNarrow, count_both, with_opposites};
 ghost use Rattle.srs_num.specs.Points.{IsWithin};
 ghost use Rattle.srs_cell.specs.Spans.{IsCount};
 ghost use Rattle.srs_wit.specs.Spans.{ArePairsNarrow};
-ghost use Rattle.srs_wit.specs.Search.{AreHalf, AreFound, Adds, AddsLinks, Extends, IsClosedAt, HasUnits, AreAll, IsStop};
+ghost use Rattle.srs_wit.specs.Search.{AreHalf, AreFound, Adds, AddsLinks, Extends, IsClosedAt};
+ghost use Rattle.srs_wit.specs.Search.{HasUnits, AreAll, IsStop};
 ghost use Rattle.srs_path.specs.declared.limits.TheConstants.{MOST_WITNESSES};
 
 use crate::halves::{upper, with_opposites};
@@ -21,9 +23,9 @@ use srs_cell::{Cell, Span};
 use srs_num::{NoMemory, Pairs, V2};
 use std::alloc::Global;
 
-// The witnesses that were found after (0,0), in the order by a and then by b; whether that is one of them; and those whose
-// links weren't followed yet, the newest last. Each stands for its mirror image too: -w is a witness where w is, since the
-// links of -w are the mirrored links of w.
+// The witnesses that were found after (0,0), in the order by a and then by b; whether that is one
+// of them; and those whose links weren't followed yet, the newest last. Each stands for its mirror
+// image too: -w is a witness where w is, since the links of -w are the mirrored links of w.
 #[derive(Drop)]
 struct Search {
     found: PairSet,
@@ -72,7 +74,8 @@ fn too_many(shown: Result<Pairs, NoMemory>, bound: u32) -> WitErr
 }
 
 impl Search {
-    // Nothing found yet. There is room for as many as the bound allows, up to a table that costs little to make.
+    // Nothing found yet. There is room for as many as the bound allows, up to a table that costs
+    // little to make.
     fn new(alloc: Global, bound: u32) -> Result<Search, NoMemory>
         ensures found { IfOk result (λ search. search.found ≡ []) }
         ensures origin { IfOk result (λ search. search.origin ≡ false) }
@@ -207,9 +210,10 @@ impl Search {
         Ok(())
     }
 
-    // Adds the pairs of the span of `w`, of which there are `n`. Those that begin with one number other than 0 are all on one
-    // side of (0,0). The one with the greatest second entry in magnitude comes last, so that its links are followed first:
-    // where there are too many witnesses, this way outwards mostly meets them sooner.
+    // Adds the pairs of the span of `w`, of which there are `n`. Those that begin with one number
+    // other than 0 are all on one side of (0,0). The one with the greatest second entry in
+    // magnitude comes last, so that its links are followed first: where there are too many
+    // witnesses, this way outwards mostly meets them sooner.
     #[inline(always)]
     fn add_row(&mut self, w: V2, span: Span, n: u64) -> Result<(), NoMemory>
         requires first { IsNarrow w }
@@ -311,13 +315,15 @@ pub struct Searcher {
 }
 
 impl Searcher {
-    /// Its room is that for cells with a bound of `w` on their witnesses. A search with another bound takes more as it goes.
+    /// Its room is that for cells with a bound of `w` on their witnesses. A search with another
+    /// bound takes more as it goes.
     pub fn new(alloc: Global, w: u32) -> Result<Searcher, NoMemory> {
         let search = Search::new(alloc, w)?;
         Ok(Searcher { search })
     }
 
-    /// As the function of this name, for one cell after another. After an `Err` too it may be used for other cells.
+    /// As the function of this name, for one cell after another. After an `Err` too it may be used
+    /// for other cells.
     pub fn small_witnesses(
         &mut self,
         alloc: Global,
@@ -339,8 +345,9 @@ impl Searcher {
     }
 }
 
-/// The witnesses of the cell, for a bound `w` from 1 to `MOST_WITNESSES` on their number, or `None` exactly where the cell isn't
-/// small. It is the call for whoever asks for nothing that shows this: of a cell that isn't small it lists no witness.
+/// The witnesses of the cell, for a bound `w` from 1 to `MOST_WITNESSES` on their number, or `None`
+/// exactly where the cell isn't small. It is the call for whoever asks for nothing that shows this:
+/// of a cell that isn't small it lists no witness.
 pub fn small_witnesses(alloc: Global, cell: &Cell, w: u32) -> Result<Option<WitSet>, NoMemory>
     requires some { 1 ≤ w }
     requires few { w ≤ MOST_WITNESSES }

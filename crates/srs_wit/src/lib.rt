@@ -1,5 +1,5 @@
-//! The witnesses of a cell: the least set of pairs that holds the units and is closed under both links at every point
-//! of the cell.
+//! The witnesses of a cell: the least set of pairs that holds the units and is closed under both
+//! links at every point of the cell.
 #![tactic(auto)]
 
 mod closure;

@@ -1,5 +1,6 @@
 // A set of pairs that is looked up fast where their entries are small.
-ghost use Rattle.std.specs.Prelude.{◌≡◌, ◌≤◌, ◌<◌, ◌*◌, ◌^◌, ◌++◌, [], ◌∷◌, not, length, if◌then◌else◌, ℕ, MatchOption, IfOk, OnOk, OnErr};
+ghost use Rattle.std.specs.Prelude.{◌≡◌, ◌≤◌, ◌<◌, ◌*◌, ◌^◌, ◌++◌, [], ◌∷◌, not, length};
+ghost use Rattle.std.specs.Prelude.{if◌then◌else◌, ℕ, MatchOption, IfOk, OnOk, OnErr};
 ghost use Rattle.indexmap.specs.IndexSet.{insert_key};
 ghost use Rattle.srs_map.specs.Step.{IsNarrow};
 ghost use Rattle.srs_path.proofs.WitnessLemmas.{pair_eq};
@@ -18,7 +19,8 @@ use std::marker::Model;
 #[derive(Drop)]
 pub(crate) struct PairSet {
     items: Vec<V2>,
-    // The first entry of a near pair is from 0 on and below this, and the second one from its opposite on and below it.
+    // The first entry of a near pair is from 0 on and below this, and the second one from its
+    // opposite on and below it.
     side: usize,
     // The marks of the near ones.
     near: MarkTable,

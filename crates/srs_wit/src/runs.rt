@@ -7,8 +7,8 @@ use crate::spans::is_downward;
 use srs_cell::Span;
 use srs_num::V2;
 
-/// So many pairs that begin with `a`: the second entry of the first is `first`, and those of the others follow upwards, or
-/// downwards where `back` says so.
+/// So many pairs that begin with `a`: the second entry of the first is `first`, and those of the
+/// others follow upwards, or downwards where `back` says so.
 #[derive(Clone, Copy, Drop)]
 pub(crate) struct Run {
     pub(crate) a: i64,
@@ -23,7 +23,8 @@ pub(crate) struct Step {
     pub(crate) by: i64,
 }
 
-// The pairs of the span of `w`, of which there are `n`. The one with the greatest second entry in magnitude comes last.
+// The pairs of the span of `w`, of which there are `n`. The one with the greatest second entry in
+// magnitude comes last.
 #[inline(always)]
 pub(crate) fn run_of(w: V2, span: Span, n: u64) -> Run
     requires low { IsWithin (2 ^ 41) span.low }

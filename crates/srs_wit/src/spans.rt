@@ -21,7 +21,8 @@ pub(crate) fn is_downward(span: Span) -> bool
     span.low + span.high < 0
 }
 
-// A pair of the span of `w` with an entry past 2^37, if there is one: then one of the two ends is such a pair.
+// A pair of the span of `w` with an entry past 2^37, if there is one: then one of the two ends is
+// such a pair.
 pub(crate) fn wide_end(w: V2, span: Span) -> Option<V2>
     requires { IsNarrow w }
     ensures { MatchOption result (ArePairsNarrow w span.low span.high)

@@ -27,12 +27,39 @@ overflow_mul-result-3 c =
 pub overflow_add-result-2 : goal.overflow_add-result-2
 overflow_add-result-2 c =
     let f = dot_of c.args.form.now c.args.v.now c.parts-a.ensures.sized c.requires in
-    simp (c.parts-a.ensures.a, c.parts-a.ensures.b, c.parts-a.ensures.c, to_z-of_z f.a64, to_z-of_z f.b64, to_z-of_z f.c64, to_z-of_z f.p64, to_z-of_z f.q64, to_z-of_z f.d64,
-        to_z-of_z f.first, to_z-of_z f.second, to_z-of_z f.third, to_z-of_z f.two) f.all
+    simp (
+      c.parts-a.ensures.a,
+      c.parts-a.ensures.b,
+      c.parts-a.ensures.c,
+      to_z-of_z f.a64,
+      to_z-of_z f.b64,
+      to_z-of_z f.c64,
+      to_z-of_z f.p64,
+      to_z-of_z f.q64,
+      to_z-of_z f.d64,
+      to_z-of_z f.first,
+      to_z-of_z f.second,
+      to_z-of_z f.third,
+      to_z-of_z f.two,
+    ) f.all
 
 pub returns : goal.returns
 unfolding value
 returns c =
     let f = dot_of c.args.form.now c.args.v.now c.parts-a.ensures.sized c.requires in
-    simp (c.parts-a.ensures.a, c.parts-a.ensures.b, c.parts-a.ensures.c, to_z-of_z f.a64, to_z-of_z f.b64, to_z-of_z f.c64, to_z-of_z f.p64, to_z-of_z f.q64, to_z-of_z f.d64,
-        to_z-of_z f.first, to_z-of_z f.second, to_z-of_z f.third, to_z-of_z f.two, to_z-of_z f.all)
+    simp (
+      c.parts-a.ensures.a,
+      c.parts-a.ensures.b,
+      c.parts-a.ensures.c,
+      to_z-of_z f.a64,
+      to_z-of_z f.b64,
+      to_z-of_z f.c64,
+      to_z-of_z f.p64,
+      to_z-of_z f.q64,
+      to_z-of_z f.d64,
+      to_z-of_z f.first,
+      to_z-of_z f.second,
+      to_z-of_z f.third,
+      to_z-of_z f.two,
+      to_z-of_z f.all,
+    )
