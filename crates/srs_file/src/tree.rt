@@ -104,17 +104,18 @@ impl Tree {
         ensures ok { OnOk result (StepsNode self.old line.now self.new) }
         ensures err { IfErr result (IsSlip (SlipsNode self.old line.now)) }
     {
+        // The words that come most often stand first.
         if has_word(line, b"cut") {
             return self.cut(line);
+        }
+        if has_word(line, b"left") {
+            return self.left(line);
         }
         if has_word(line, b"in") {
             return self.inside(line);
         }
         if has_word(line, b"out") {
             return self.outside(line);
-        }
-        if has_word(line, b"left") {
-            return self.left(line);
         }
         Err(LineErr::Slip(Slip::Word, 0))
     }

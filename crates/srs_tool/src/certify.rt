@@ -51,7 +51,9 @@ fn certificate(
 {
     // A cell has a point.
     let _ = cell.region();
-    let (_version, cert) = refine_polygon(alloc, limits, vertices.as_slice(), cell)?;
+    let (version, cert) = refine_polygon(alloc, limits, vertices.as_slice(), cell)?;
+    // The cells aren't printed: their memory serves for the text.
+    drop(version);
     let mut text = Bytes::new(alloc);
     match put_cert(&mut text, &cert) {
         Ok(()) => Ok(text),
