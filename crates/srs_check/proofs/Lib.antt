@@ -14,3 +14,5 @@ pub mod Excluded
 pub mod WholeCounts
 pub mod WholeProved
 pub mod Separating
+pub mod Tallying
+pub mod Walking

@@ -5,6 +5,8 @@ pub mod Budgets
 pub mod Proving
 pub mod Faults
 pub mod Tested
+pub mod Tallies
+pub mod Walks
 pub mod Certified
 pub mod Whole
 pub mod Builds

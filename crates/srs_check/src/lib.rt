@@ -9,10 +9,12 @@ mod laws;
 mod listed;
 mod nodes;
 mod places;
-mod rows;
+mod tally;
 mod waiting;
+mod walk;
 
 pub use builds::{Built, build};
-pub use checks::{check, count_nodes, polygon_cell};
+pub use checks::{check, polygon_cell};
 pub use faults::{Checked, Counts, Fault};
 pub use laws::{separates, whole_certificates};
+pub use tally::count_nodes;

@@ -12,7 +12,8 @@ use Rattle.srs_check.specs.Proving.{Proves}
 use Rattle.srs_check.specs.Faults.{Fails}
 use Rattle.srs_check.proofs.Answering.{same_get}
 use Rattle.srs_check.proofs.Excluded.{first_fault}
-use Rattle.srs_check.proofs.WalkStates.{WalkState, some_cell, walk_fault, walk_proves, walk_certifies}
+use Rattle.srs_check.specs.Walks.{Awaits}
+use Rattle.srs_check.proofs.WalkStates.{some_cell, walk_fault, walk_proves, walk_certifies}
 use Rattle.srs_check.proofs.Building.{GrownTo, regions_of, grown_first, grown_next, grown_last, cell_is_open, few_behind, same_region, cut_is_short}
 use Rattle.srs_check.proofs.builds.build.Goals as goal
 use Rattle.srs_check.proofs.builds.build.Goals.{in-Some-2, in_default-2}
@@ -30,7 +31,7 @@ loop-i-init c =
 
 pub unreachable-requires : goal.unreachable-requires
 unreachable-requires c =
-    some_cell c.args.c.now c.loop-i.i (omega arith) (subst (λ (xs : List WaitingCell). WalkState c.args.c.now c.loop-i.i (regions_of xs)) c.in_default.ensures c.loop-i.invariant.walk)
+    some_cell c.args.c.now c.loop-i.i (omega arith) (subst (λ (xs : List WaitingCell). Awaits c.args.c.now c.loop-i.i (regions_of xs)) c.in_default.ensures c.loop-i.invariant.walk.awaits)
 
 pub returns-in-Err : goal.returns-in-Err
 returns-in-Err c =
@@ -89,6 +90,6 @@ pub returns : goal.returns
 returns c =
     let walk = c.loop-i.invariant.walk in (
       subst (IsBuilt c.args.c.now) (sym c.finish.ensures) (grown_last c.args.c.now c.loop-i.i c.loop-i.waiting c.loop-i.tree c.loop-i.invariant (omega arith)),
-      (walk_proves c.args.c.now c.loop-i.i (regions_of c.loop-i.waiting) walk (omega arith), c.count_nodes.ensures),
-      walk_certifies c.args.c.now c.loop-i.i (regions_of c.loop-i.waiting) walk (omega arith) c.node_count-nodes.ensures.certificate,
+      (walk_proves c.args.c.now c.loop-i.i walk.good (omega arith), c.tally_of-tally.ensures.counts),
+      walk_certifies c.args.c.now c.loop-i.i walk.good (omega arith) c.node_count-nodes.ensures.certificate,
     )
