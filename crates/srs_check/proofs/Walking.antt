@@ -35,7 +35,7 @@ use Rattle.srs_check.specs.Faults.{Fails, IsFaultOf, IsFirstFault, IsChecked, is
 use Rattle.srs_check.specs.Certified.{IsCertified}
 use Rattle.srs_check.specs.Tested.{IsForCells, IsGoodLeaf, IsDivided}
 use Rattle.srs_check.specs.Tallies.{IsTallied, HasRoomFor}
-use Rattle.srs_check.specs.Walks.{Awaits, IsGood, AreGoodYet, IsNoted, NotesFirst, Notes, IsFailure, Stands, HasCome, Come, IsUnspent, IsFirstUnspent}
+use Rattle.srs_check.specs.Walks.{Awaits, IsGood, AreGoodYet, IsNoted, NotesFirst, Notes, IsFailure, Stands, HasCome, Come, IsUnspent, IsFirstUnspent, IsSooner}
 use Rattle.srs_check.proofs.RowCounts.{zeros, zeros_read, so_far_few, all_rows}
 use Rattle.srs_check.proofs.NodeCounts.{first_few, all_counts}
 use Rattle.srs_check.proofs.Excluded.{first_fault}
@@ -205,6 +205,12 @@ comes_first c w is tallied root left none = record {
   stands = subst (Stands c 0 0 w.waiting) (sym none) (refl, subst (Awaits c 0) (sym root) (awaits_first c (region_of c.vertices) is refl));
 }
 
+-- the walk comes to a node that was found
+pub comes_to : (c : CertView) (i : ℕ) (L : Budget) (line depth : ℕ) (o : Outcome) (w : Walk) → IsCertificate c → c.limits ≡ L → line ≡ line_of_node c i
+    → (e : Entry) → slice_get c.events i ≡ Some e → length e.path ≡ depth → e.outcome ≡ o → HasCome c i w → Come c i L line depth o w
+comes_to c i L line depth o w is limits begins e at deep same come =
+    record { certificate = is; limits_are = limits; line_is = begins; node = record { entry = e; there = at; depth_is = deep; outcome_is = same }; come = come }
+
 pub no_failure : (f : Option (ℕ × Fault)) → false ≡ is_some f → f ≡ None
 no_failure None e = refl
 no_failure (Some x) e = cc
@@ -311,6 +317,42 @@ module _ (c : CertView) (i : ℕ) (L : Budget) (line depth : ℕ) (o : Outcome) 
         wrong = fails_here c i R rest cells met m.node.there fault (said (λ b k x. Fails R b c.events k x fault) (wrong c.events));
       });
     }
+
+-- the lines that stand for the depths, one depth more: this one's isn't rightly left
+pub found_more : (L : Budget) (H : History) (left : List ℕ) (n : ℕ) (first : Option ℕ) (least : ℕ) → IsFirstUnspent L H left n first → 0 < get_or left n 0 → (SpendsCells L H n → ⊥) → IsSooner first (get_or left n 0) least
+    → IsFirstUnspent L H left (n + 1) (Some least)
+found_more L H left n None least old some unspent is = (
+  (n, omega arith, sym is, record { noted = some; unspent = unspent }),
+  λ k l noted less. elim (dec_lt k n) as (λ _. SpendsCells L H k) [
+    | yes g ↦ old k g noted
+    | no g ↦ let q : k ≡ n = omega arith in absurd (omega (arith, less, is, ap (λ (j : ℕ). get_or left j 0) q))
+  ],
+)
+found_more L H left n (Some other) least (found, before) some unspent (low, less, which) = (
+  place which,
+  λ k l noted below. elim (dec_lt k n) as (λ _. SpendsCells L H k) [
+    | yes g ↦ before k g noted (omega (arith, below, less))
+    | no g ↦ let q : k ≡ n = omega arith in absurd (omega (arith, below, low, ap (λ (j : ℕ). get_or left j 0) q))
+  ],
+)
+  where
+    place : (least ≡ get_or left n 0) ⊎ (least ≡ other) → (k : ℕ) × (k < n + 1) × (get_or left k 0 ≡ least) × IsUnspent L H left k
+    place (inl q) = (n, omega arith, sym q, record { noted = some; unspent = unspent })
+    place (inr q) = (found.0, omega (arith, found.1), found.2 ∙ sym q, found.3)
+
+-- and this one's is, or there is none
+pub same_more : (L : Budget) (H : History) (left : List ℕ) (n : ℕ) (first : Option ℕ) → IsFirstUnspent L H left n first → (0 < get_or left n 0 → SpendsCells L H n) → IsFirstUnspent L H left (n + 1) first
+same_more L H left n None old here = λ k l noted. elim (dec_lt k n) as (λ _. SpendsCells L H k) [
+  | yes g ↦ old k g noted
+  | no g ↦ let q : n ≡ k = omega arith in subst (λ (j : ℕ). 0 < get_or left j 0 → SpendsCells L H j) q here noted
+]
+same_more L H left n (Some line) (found, before) here = (
+  (found.0, omega (arith, found.1), found.2, found.3),
+  λ k l noted less. elim (dec_lt k n) as (λ _. SpendsCells L H k) [
+    | yes g ↦ before k g noted less
+    | no g ↦ let q : n ≡ k = omega arith in subst (λ (j : ℕ). 0 < get_or left j 0 → SpendsCells L H j) q here noted
+  ],
+)
 
 -- what is found at the end
 module _ (c : CertView) (is : IsCertificate c) (w : Walk) (s : HasCome c (length c.events) w) where

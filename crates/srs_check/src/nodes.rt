@@ -163,7 +163,7 @@ fn check_left(
         Fails cell.now limits.now H depth (Left cause) fault) }
 {
     match test_left(limits, cell, depth, cause) {
-        Tested::Leaf | Tested::Divided(_, _) => Ok(()),
+        Tested::Leaf => Ok(()),
         Tested::Unsettled => {
             if spends_cells(limits, rows, depth) {
                 Ok(())
@@ -172,5 +172,6 @@ fn check_left(
             }
         }
         Tested::Wrong(fault) => Err(fault),
+        Tested::Divided(_, _) => unreachable!(),
     }
 }
