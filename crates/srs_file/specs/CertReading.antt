@@ -1,5 +1,6 @@
 -- Reading a certificate: its version, its polygon, its limits, its tree, and `end`.
-use Rattle.std.specs.Prelude.{◌≡◌, ◌≢◌, ◌⊎◌, ⊤, ℕ, ℤ, pos, List, [], ◌∷◌, codes}
+use Rattle.std.specs.Prelude.{◌≡◌, ◌≢◌, ◌⊎◌, ⊤, ℕ, ℤ, pos, List, [], ◌∷◌, None, Some, codes}
+use Rattle.std.specs.declared.option.Option.{Option}
 use Rattle.srs_path.specs.Views.{Budget, IsBudget}
 use Rattle.srs_line.specs.declared.slip.Slip.{Slip}
 use Rattle.srs_line.specs.declared.slip.Slip.TheVariants.{Word, Version, Range}
@@ -97,6 +98,13 @@ CertEnds reader = reader.phase ≡ Done
 -- a reader before the first line
 abbrev pub cert_start : CertReader
 cert_start = record { phase = First; outline = no_outline; tree = no_tree }
+
+-- the limits, once their line was read
+abbrev pub limits_in : CertPhase → Budget → Option Budget
+limits_in First b = None
+limits_in Polygon b = None
+limits_in Nodes b = Some b
+limits_in Done b = Some b
 
 -- what was read
 abbrev pub read_view : CertReader → CertView

@@ -11,3 +11,4 @@ pub mod QuestionReading
 pub mod AskReading
 pub mod SessionReading
 pub mod LiveReading
+pub mod Feeding

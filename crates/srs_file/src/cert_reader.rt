@@ -5,7 +5,7 @@ ghost use Rattle.srs_line.specs.declared.slip.Slip.{Slip};
 ghost use Rattle.srs_line.specs.Refusal.{IsSlip};
 ghost use Rattle.srs_file.specs.Grammar.{SpellsCertificate};
 ghost use Rattle.srs_cert.specs.Certificates.{CertView, IsCertificate, cert_text};
-ghost use Rattle.srs_file.specs.CertReading.{cert_start, read_view, StepsFirst, SlipsFirst, StepsInPolygon, SlipsInPolygon, SaysLimits, AreNoLimits, IsLimitsSlip, StepsLimits, StepsNodes, SlipsNodes, ReadsAsCert, FirstCertSlip, IsCertOrSlips, IsCertRefusal, IsNoCert};
+ghost use Rattle.srs_file.specs.CertReading.{cert_start, limits_in, read_view, StepsFirst, SlipsFirst, StepsInPolygon, SlipsInPolygon, SaysLimits, AreNoLimits, IsLimitsSlip, StepsLimits, StepsNodes, SlipsNodes, ReadsAsCert, FirstCertSlip, IsCertOrSlips, IsCertRefusal, IsNoCert};
 
 use crate::polygon_reader::end;
 use crate::{Outline, Tree};
@@ -56,6 +56,16 @@ impl CertReader {
         let (vertices, _) = self.outline.into_parts();
         let (limits, events) = self.tree.into_parts();
         Cert::new(alloc, vertices.as_slice(), limits, events)
+    }
+
+    /// The limits, once their line was read.
+    pub fn limits_read(&self) -> Option<Limits>
+        ensures { result ≡ limits_in self.now.phase self.now.tree.limits }
+    {
+        match self.phase {
+            CertPhase::First | CertPhase::Polygon => None,
+            CertPhase::Nodes | CertPhase::Done => Some(self.tree.limits),
+        }
     }
 
     fn first(&mut self, line: &[u8]) -> Result<(), LineErr>

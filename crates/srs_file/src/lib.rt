@@ -2,6 +2,7 @@
 #![tactic(auto)]
 
 mod ask_reader;
+mod cert_feed;
 mod cert_reader;
 mod gathered;
 mod leaf;
@@ -15,6 +16,7 @@ mod tree;
 mod vertex;
 
 pub use ask_reader::{AskReader, one_ask_input, read_ask};
+pub use cert_feed::{CertFeed, NodeAt};
 pub use cert_reader::{CertPhase, CertReader, one_certificate, read_cert};
 pub use gathered::{Events, PathStack};
 pub use leaf::Leaf;

@@ -5,7 +5,7 @@ ghost use Rattle.srs_file.specs.Outline.{no_outline, IsWholeOutline, TakesOutlin
 
 use crate::Ring;
 use srs_line::LineErr;
-use srs_plane::{Region, Vertices};
+use srs_plane::{Region, Vertex, Vertices};
 use std::alloc::Global;
 
 /// A polygon while its lines are read: whether the line with the number of its vertices was, and its ring.
@@ -31,6 +31,13 @@ impl Outline {
         ensures { IsTrue result ↔ IsWholeOutline self.now }
     {
         self.opened && !self.ring.wants_more()
+    }
+
+    /// The vertices that came. It takes no memory.
+    pub fn vertices(&self) -> &[Vertex]
+        ensures { result.now ≡ self.now.ring.vertices }
+    {
+        self.ring.vertices()
     }
 
     /// Takes the next line: of the number of vertices, or of a vertex. An `Err` may leave any polygon.

@@ -58,6 +58,13 @@ impl Ring {
         self.left > 0
     }
 
+    /// The vertices that came. It takes no memory.
+    pub fn vertices(&self) -> &[Vertex]
+        ensures { result.now ≡ self.now.vertices }
+    {
+        self.vertices.as_slice()
+    }
+
     /// Begins anew with the line that says by this word how many vertices come. An `Err` changes nothing. It takes no memory.
     pub fn open(&mut self, word: &[u8], line: &[u8]) -> Result<(), Slip>
         ensures ok { OnOk result (Opens word.now line.now self.new) }
