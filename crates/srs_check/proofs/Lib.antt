@@ -16,3 +16,6 @@ pub mod WholeProved
 pub mod Separating
 pub mod Tallying
 pub mod Walking
+pub mod Reading
+pub mod LineSteps
+pub mod Streaming

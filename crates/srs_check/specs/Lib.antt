@@ -11,3 +11,5 @@ pub mod Certified
 pub mod Whole
 pub mod Builds
 pub mod Separated
+pub mod LineChecks
+pub mod Streams

@@ -1,0 +1,4 @@
+use Rattle.srs_check.proofs.line_check.LineCheck.end.Goals as goal
+
+pub unreachable-requires : goal.unreachable-requires
+unreachable-requires c = ?
