@@ -110,6 +110,11 @@ pub some_walk : (text : List ℕ) (s : CertReader) → SpellsCertificate text (r
 some_walk text s spelled None none e = let listed : ListsWholeTree s.tree.events = spelled.certificate.tree in let empty : ListsWholeTree [] = subst ListsWholeTree none listed in empty
 some_walk text s spelled (Some w) walks e = none-some w (sym e)
 
+-- and its limits were read
+pub planted_at_end : (text : List ℕ) (s : CertReader) → SpellsCertificate text (read_view s) → (w : Option Walk) → WalksWith s w → IsPlanted s.phase
+planted_at_end text s spelled None none = absurd (some_walk text s spelled None none refl)
+planted_at_end text s spelled (Some w) walks = walks.0
+
 -- what the reader says at the end
 pub record SaysOfEnd (feed : CertFeedView) (rest : List ℕ) (r : Result (Unit {0}) FileErr) : Type 0 where
   pub accepted : OnOk r ((lines : List (List ℕ)) (s : CertReader) → IsFed feed lines s → SpellsCertificate (lines_text lines ++ rest) (read_view s))

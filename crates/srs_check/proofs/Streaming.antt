@@ -1,21 +1,27 @@
 -- The lines of a source, one after another.
-use Rattle.std.proofs.Common.{◌≡◌, ℕ, ◌+◌, ◌-◌, ◌<◌, ◌≤◌, List, [], ◌∷◌, ◌++◌, length, Ok, Err, None, refl, sym, ap, subst, ◌∙◌, arith, append_assoc, length-append}
+use Rattle.std.proofs.Common.{◌≡◌, ℕ, ◌+◌, ◌-◌, ◌<◌, ◌≤◌, List, [], ◌∷◌, ◌++◌, length, Ok, Err, Some, None, refl, sym, ap, subst, ◌∙◌, arith, append_assoc, length-append}
+use Rattle.std.specs.Prelude.{MatchOption, IsNone, IsErrOf, is_some}
 use Rattle.std.specs.declared.option.Option.{Option}
 use Rattle.std.specs.declared.result.Result.{Result}
 use Rattle.std.specs.Io.KnownBytes.{Consumes, IsAtEnd}
 use Rattle.std.proofs.KnownBytes.{Consumes-trans}
 use Rattle.srs_text.specs.Line.{HasNoLf, IsLineOf}
-use Rattle.srs_text.specs.Ends.{TookJust, TookUpTo}
-use Rattle.srs_text.specs.Feeds.{LineFeedView, Takes}
+use Rattle.srs_text.specs.Ends.{Rose, TookJust, TookUpTo}
+use Rattle.srs_text.specs.declared.transfer.ReadErr.{ReadErr}
+use Rattle.srs_text.specs.declared.transfer.ReadErr.TheVariants as reads
+use Rattle.srs_text.specs.declared.feeds.Fed.{Fed}
+use Rattle.srs_text.specs.Feeds.{LineFeedView, new_feed, Takes, FeedsOn, Feeds}
 use Rattle.srs_line.specs.declared.slip.Slip.{Slip}
-use Rattle.srs_line.specs.declared.slip.FileErr.TheVariants.{At}
+use Rattle.srs_line.specs.declared.slip.FileErr.{FileErr}
+use Rattle.srs_line.specs.declared.slip.FileErr.TheVariants.{At, NoMemory as FileNoMemory}
 use Rattle.srs_line.specs.Machine.{lines_text}
 use Rattle.srs_file.specs.CertReading.{IsCertRefusal}
 use Rattle.srs_file.proofs.CertRuns.{no_cert}
 use Rattle.srs_check.specs.declared.faults.Checked.{Checked}
 use Rattle.srs_check.specs.declared.line_check.LineCheck.{LineCheck}
 use Rattle.srs_check.specs.LineChecks.{HasTaken, IsAnswered}
-use Rattle.srs_check.specs.Streams.{TakesAll, ChecksAll, Slips}
+use Rattle.srs_check.specs.declared.stream.CheckErr.{CheckErr}
+use Rattle.srs_check.specs.Streams.{TakesAll, ChecksAll, Slips, Stops, IsReadErr, IsFileErr}
 use Rattle.srs_check.proofs.LineSteps.{text_more}
 
 -- what was taken so far: these lines were checked, and the rest is held
@@ -29,6 +35,24 @@ pub record HasFed (before now : Option (List ℕ)) (limit : ℕ) (feed : LineFee
   pub limit_is : feed.limit ≡ limit
   pub within : feed.taken ≤ feed.limit
   pub works : feed.failed ≡ None
+
+nothing_lost : (left : Option (List ℕ)) → Consumes left left []
+nothing_lost None = tt
+nothing_lost (Some xs) = refl
+
+-- before the first line
+pub fed_nothing : (left : Option (List ℕ)) (limit : ℕ) (feed : LineFeedView) (check : LineCheck) → feed ≡ new_feed limit → HasTaken check [] → HasFed left left limit feed check
+fed_nothing left limit feed check new checked = subst (λ (f : LineFeedView). HasFed left left limit f check) (sym new) (record {
+  lines = [];
+  bytes = [];
+  checked = checked;
+  lost = nothing_lost left;
+  split = refl;
+  count = refl;
+  limit_is = refl;
+  within = omega arith;
+  works = refl;
+})
 
 module _ (before now after : Option (List ℕ)) (limit : ℕ) (feed : LineFeedView) (check : LineCheck) (s : HasFed before now limit feed check) where
   -- more bytes were taken
@@ -58,8 +82,7 @@ module _ (before now after : Option (List ℕ)) (limit : ℕ) (feed : LineFeedVi
   -- how much is left to do falls with each line
   pub less_left : (next : LineFeedView) (more line : List ℕ) → Takes feed more next → IsLineOf (feed.held ++ more) line next.held → (next.limit - next.taken) + length next.held < (feed.limit - feed.taken) + length feed.held
   less_left next more line takes l =
-      let size : length feed.held + length more ≡ length line + (1 + length next.held) = sym (length-append feed.held more) ∙ ap length l.whole ∙ length-append line (10 ∷ next.held) in
-      omega (arith, size, takes.taken, takes.within, takes.limit)
+      omega (arith, length-append feed.held more, ap length l.whole, length-append line (10 ∷ next.held), takes.taken, takes.within, takes.limit)
 
   -- the text is whole
   pub fed_all : (next : LineFeedView) (more rest : List ℕ) → Consumes now after more → Takes feed more next → feed.held ++ more ≡ rest → IsAtEnd after → TakesAll before after limit (lines_text s.lines ++ rest)
@@ -86,3 +109,27 @@ slips_all before after limit text line slip all first = record { text = text; al
 
 pub checks_all : (before after : Option (List ℕ)) (limit : ℕ) (text : List ℕ) (answer : Checked) → TakesAll before after limit text → IsAnswered text answer → ChecksAll before after limit answer
 checks_all before after limit text answer all answered = record { text = text; all = all; answered = answered }
+
+-- what a feed that hasn't failed is after a call
+pub feeds_on : (before after : Option (List ℕ)) (feed next : LineFeedView) (r : Result Fed ReadErr) → feed.failed ≡ None → Feeds feed before after r next → FeedsOn feed before after r next
+feeds_on before after feed next r works feeds = subst (λ (o : Option ReadErr). MatchOption o (FeedsOn feed before after r next) (λ _. next ≡ feed)) works feeds
+
+earlier : (a b c : ℕ) → a ≤ b → Rose b c → Rose a c
+earlier a b c l rose = omega (arith, l, rose)
+
+-- how the check stops where the feed does
+module _ (left now after : Option (List ℕ)) (limit faults then later : ℕ) (feed : LineFeedView) (check : LineCheck) (s : HasFed left now limit feed check) (rising : faults ≤ then) (r : Result Fed ReadErr)
+    (long : IsNone feed.failed → IsErrOf r reads.TooLong → TookJust now after (feed.limit + 1 - feed.taken)) (fault : IsNone feed.failed → IsErrOf r reads.Fault → Rose then later)
+    (cut : IsNone feed.failed → IsErrOf r reads.Fault → TookUpTo now after (feed.limit - feed.taken)) (want : IsNone feed.failed → IsErrOf r reads.NoMemory → TookUpTo now after (feed.limit + 1 - feed.taken)) where
+  working : IsNone feed.failed
+  working = ap is_some s.works
+
+  pub stops_reading : (error : ReadErr) (e : CheckErr) → r ≡ Err error → IsReadErr error e → Stops left after faults later limit e
+  stops_reading reads.Fault e q is = subst (Stops left after faults later limit) (sym is) (earlier faults then later rising (fault working q), fed_upto left now after limit feed check s (cut working q))
+  stops_reading reads.TooLong e q is = subst (Stops left after faults later limit) (sym is) (fed_over left now after limit feed check s (long working q))
+  stops_reading reads.NoMemory e q is = subst (Stops left after faults later limit) (sym is) (fed_above left now after limit feed check s (want working q))
+
+-- how the check stops at the end of a text
+pub stops_at_end : (left after : Option (List ℕ)) (faults later limit : ℕ) (text : List ℕ) (error : FileErr) (e : CheckErr) → TakesAll left after limit text → TookUpTo left after (limit + 1) → IsCertRefusal text error → IsFileErr error e → Stops left after faults later limit e
+stops_at_end left after faults later limit text (At line slip) e all took refused is = subst (Stops left after faults later limit) (sym is) (slips_all left after limit text line slip all refused)
+stops_at_end left after faults later limit text FileNoMemory e all took refused is = subst (Stops left after faults later limit) (sym is) took

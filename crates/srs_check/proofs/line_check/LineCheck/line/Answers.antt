@@ -25,4 +25,7 @@ returns-in-Ok-None c = λ lines taken.
     subst (AfterLine after lines c.args.line.now) (c.in-Ok-None.is ∙ ap (λ x. Ok x) c.in-Ok-None.field-0-is) (after_line c.args.self.now c.line.new.self lines c.args.line.now c.line.result says taken)
 
 pub returns-in-Err-At : goal.returns-in-Err-At
-returns-in-Err-At c = let h = c.in-Err-At in ?
+returns-in-Err-At c = λ lines taken.
+    let says : SaysOfLine c.args.self.now.feed c.line.new.self c.args.line.now c.line.result = record { good = c.line.ensures.good; refused = c.line.ensures.refused; failed = c.line.ensures.failed; again = c.line.ensures.again } in
+    let after : LineCheck = record { feed = c.line.new.self; walk = c.args.self.now.walk } in
+    subst (AfterLine after lines c.args.line.now) (c.in-Err-At.is ∙ ap (λ x. Err x) c.in-Err-At.field-0-is) (after_line c.args.self.now c.line.new.self lines c.args.line.now c.line.result says taken)
