@@ -101,8 +101,8 @@ module _ (c : CertView) (is : IsCertificate c) (i : ℕ) (w : WaitingCell) (rest
   early : i < length c.events
   early = slice_get_within c.events i e at
 
-  t : Takes c.events i s.walk.waiting e
-  t = walked_takes c.events i s.walk.waiting e s.walk.walked at
+  t : Takes c.events i s.walk.awaits.waiting e
+  t = walked_takes c.events i s.walk.awaits.waiting e s.walk.awaits.walked at
 
   fresh : outcome_at (take i c.events) e.path ≡ None
   fresh = t.is_open.fresh e.path (here_first e.path t.rest)
@@ -117,13 +117,13 @@ module _ (c : CertView) (is : IsCertificate c) (i : ℕ) (w : WaitingCell) (rest
       }
 
   pub same_region : w.region ≡ region_at v.region (tree_of v) e.path
-  same_region = cell_is c i w.region (regions_of rest) s.walk e at ∙ sym (same_cell c is i (omega (arith, early)) s.walk.good v s.stands e.path cell_is_open.cell)
+  same_region = cell_is c i w.region (regions_of rest) s.walk.awaits e at ∙ sym (same_cell c is i (omega (arith, early)) s.walk.good v s.stands e.path cell_is_open.cell)
 
   -- fewer than 48 wait behind a cell that is cut
   pub few_behind : (x y : WaitingCell) (u : Snapshot) → cells_from (Some (x, y)) ≡ map (cell_in u) (parts_by e.path (as_built e.outcome)) → length rest < 48
   few_behind x y u parts =
       let cut = cut_by_parts e.path e.outcome x y u parts in
-      omega (arith, few_wait c i w.region (regions_of rest) s.walk e at is cut.0 cut.1, length-map rest (λ (q : WaitingCell). q.region))
+      omega (arith, few_wait c i w.region (regions_of rest) s.walk.awaits e at is cut.0 cut.1, length-map rest (λ (q : WaitingCell). q.region))
 
   module _ (proves : Proves w.region c.limits c.events (length e.path) e.outcome) (sound : IsProvedOf w.region e.outcome) where
     abbrev after : Snapshot
@@ -136,7 +136,7 @@ module _ (c : CertView) (is : IsCertificate c) (i : ℕ) (w : WaitingCell) (rest
         (Stands-append (region_of c.vertices) (built_of (take i c.events)) v (built_event e) s.stands (outcome_at-built (take i c.events) e.path ∙ ap built_in fresh))
 
     good_next : AreGood c (i + 1)
-    good_next = good_more c i e at s.walk.good (walk_good c i w.region (regions_of rest) s.walk e at proves sound)
+    good_next = good_more c i e at s.walk.good (walk_good c i w.region (regions_of rest) s.walk.awaits e at proves sound)
 
     -- the part on a side of a cut
     part_is : (h : LinearForm) (side : Side) → e.outcome ≡ Cut h → region_at after.region (tree_of after) (e.path ++ side ∷ []) ≡ node_region c (e.path ++ side ∷ [])

@@ -15,3 +15,8 @@ pub mod Excluded
 pub mod WholeCounts
 pub mod WholeProved
 pub mod Separating
+pub mod Tallying
+pub mod Walking
+pub mod Reading
+pub mod LineSteps
+pub mod Streaming

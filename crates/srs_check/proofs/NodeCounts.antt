@@ -9,13 +9,10 @@ use Rattle.srs_path.specs.Views.{Entry}
 use Rattle.srs_tree.specs.Tree.{History}
 use Rattle.srs_check.specs.declared.faults.Counts.{Counts}
 use Rattle.srs_check.specs.Faults.{is_inside, is_outside, is_cut, is_left, counts_of}
+use Rattle.srs_check.specs.Tallies.{first_of, CountsSoFar}
 
-abbrev one_if : Bool → ℕ
+abbrev pub one_if : Bool → ℕ
 one_if b = cond b 1 0
-
--- how many of the first i nodes are of a kind
-abbrev pub first_of : (Outcome → Bool) → History → ℕ → ℕ
-first_of kind H i = count_by (λ (e : Entry). kind e.outcome) (take i H)
 
 first_more : (kind : Outcome → Bool) (H : History) (i : ℕ) (e : Entry) → slice_get H i ≡ Some e → first_of kind H (i + 1) ≡ first_of kind H i + one_if (kind e.outcome)
 first_more kind H i e at =
@@ -25,14 +22,6 @@ first_more kind H i e at =
       | true ↦ λ q. count_by_more_yes (λ (x : Entry). kind x.outcome) H i e within q
       | false ↦ λ q. let t = count_by_more_no (λ (x : Entry). kind x.outcome) H i e within q in omega (arith, t)
     ] there
-
--- the counts of the first i nodes
-pub record CountsSoFar (H : History) (i : ℕ) (counts : Counts) : Type 0 where
-  pub cells : counts.cells ≡ i
-  pub inside : counts.inside ≡ first_of is_inside H i
-  pub outside : counts.outside ≡ first_of is_outside H i
-  pub cut : counts.cut ≡ first_of is_cut H i
-  pub left : counts.left ≡ first_of is_left H i
 
 pub first_few : (kind : Outcome → Bool) (H : History) (i : ℕ) → i ≤ length H → first_of kind H i ≤ i
 first_few kind H i l = omega (arith, count_by-le-length (λ (e : Entry). kind e.outcome) (take i H), length-take-le i H l)

@@ -8,6 +8,7 @@ use Rattle.std.proofs.lemmas.Option.{slice_get_within, get_or_from_slice_get}
 use Rattle.srs_path.specs.Views.{Budget, Entry}
 use Rattle.srs_tree.specs.Tree.{History}
 use Rattle.srs_check.specs.Budgets.{nodes_upto, nodes_at, SpendsCells, CountsRows}
+use Rattle.srs_check.specs.Tallies.{RowsSoFar}
 
 abbrev one_if : Bool → ℕ
 one_if b = cond b 1 0
@@ -40,19 +41,14 @@ upto_few H k = count_by-le-length (λ (e : Entry). nat_le (length e.path) k) H
 pub at_few : (H : History) (k : ℕ) → nodes_at H k ≤ length H
 at_few H k = count_by-le-length (λ (e : Entry). length e.path == k) H
 
-abbrev zeros : ℕ → List ℕ
+abbrev pub zeros : ℕ → List ℕ
 zeros zero = []
 zeros (suc n) = 0 ∷ zeros n
 
-zeros_read : (n k : ℕ) → get_or (zeros n) k 0 ≡ 0
+pub zeros_read : (n k : ℕ) → get_or (zeros n) k 0 ≡ 0
 zeros_read zero k = refl
 zeros_read (suc n) zero = refl
 zeros_read (suc n) (suc k) = zeros_read n k
-
--- the rows of the first i nodes
-pub record RowsSoFar (H : History) (i : ℕ) (rows : List ℕ) : Type 0 where
-  pub size : length rows ≡ 49
-  pub each : (k : ℕ) → k < 49 → get_or rows k 0 ≡ nodes_at (take i H) k
 
 pub no_rows : (H : History) → RowsSoFar H 0 (zeros 49)
 no_rows H = record { size = refl; each = λ k l. zeros_read 49 k }

@@ -64,9 +64,3 @@ module _ (R : Area) (entries : RankList) (proves : ProvesInside R entries) (r : 
 
 pub inside_sound : (R : Area) (entries : RankList) (o : Outcome) → Inside entries ≡ o → ProvesInside R entries → IsProvedOf R o
 inside_sound R entries o is p = subst (IsProvedOf R) is (λ r i. finite R entries p r i)
-
--- what the event at a place proves is proved of each that is found there
-pub good_leaf : (R : Area) (L : Budget) (H : History) (i : ℕ) (f e : Entry) → slice_get H i ≡ Some f → slice_get H i ≡ Some e → ((h : LinearForm) → f.outcome ≡ Cut h → ⊥) → Proves R L H (length f.path) f.outcome → IsProvedOf R f.outcome
-    → IsGoodLeaf R L H (length e.path) e.outcome
-good_leaf R L H i f e at bt no_cut proves sound =
-    subst (λ (x : Entry). IsGoodLeaf R L H (length x.path) x.outcome) (same_Some f e (sym at ∙ bt)) (record { no_cut = no_cut; proves = proves; sound = sound })

@@ -26,26 +26,15 @@ use Rattle.srs_cert.specs.Certificates.{CertView, IsCertificate}
 use Rattle.srs_check.specs.declared.faults.Fault.{Fault}
 use Rattle.srs_check.specs.Proving.{Proves, ProvesItself, IsProved, node_region}
 use Rattle.srs_check.specs.Faults.{Fails, IsFaultOf}
-use Rattle.srs_check.specs.declared.nodes.Tested.{Tested}
-use Rattle.srs_check.specs.declared.nodes.Tested.TheVariants.{Leaf, Divided, Wrong}
-use Rattle.srs_check.specs.Tested.{IsGoodLeaf, IsDivided, IsTested}
+use Rattle.srs_check.specs.Tested.{IsDivided}
+use Rattle.srs_check.specs.Walks.{IsStacked, Awaits, IsGood}
 use Rattle.srs_check.specs.Certified.{IsCertified}
-use Rattle.srs_cert.proofs.Preordered.{IsWalked, Takes, walked_first, walked_takes, walked_outcome}
+use Rattle.srs_cert.proofs.Preordered.{Takes, walked_first, walked_takes, walked_outcome}
 use Rattle.srs_check.proofs.Cuts.{DividesBefore, partition}
-
--- the node proves itself, and what it claims is sound
-pub record IsGood (c : CertView) (e : Entry) : Type 0 where
-  pub proves : ProvesItself c e
-  pub sound : IsProvedOf (node_region c e.path) e.outcome
 
 -- each node before node i is good
 abbrev pub AreGood : CertView → ℕ → Type 0
 AreGood c i = (k : ℕ) (e : Entry) → k < i → slice_get c.events k ≡ Some e → IsGood c e
-
--- behind each path that waits there wait at most as many as it has sides
-abbrev pub IsStacked : List (List Side) → Type 0
-IsStacked [] = Unit {0}
-IsStacked (path ∷ paths) = (length paths ≤ length path) × IsStacked paths
 
 stacked_parts : (path : List Side) (o : Outcome) (rest : List (List Side)) → IsStacked (path ∷ rest) → IsStacked (parts_by path o ++ rest)
 stacked_parts path (Inside ranks) rest s = s.1
@@ -53,29 +42,28 @@ stacked_parts path (Outside cycle) rest s = s.1
 stacked_parts path (Cut h) rest s = (omega (arith, s.0, length-append path (Ge ∷ [])), (omega (arith, s.0, length-append path (Lt ∷ [])), s.1))
 stacked_parts path (Left cause) rest s = s.1
 
--- before node i: the cells that wait are those of the paths that wait, and each node before is good
+-- before node i: these cells wait, and each node before is good
 pub record WalkState (c : CertView) (i : ℕ) (cells : List Area) : Type 0 where
-  pub waiting : List (List Side)
-  pub walked : IsWalked c.events i waiting
-  pub cells_are : cells ≡ map (node_region c) waiting
-  pub stacked : IsStacked waiting
+  pub awaits : Awaits c i cells
   pub good : AreGood c i
 
-pub walk_first : (c : CertView) (root : Area) → IsCertificate c → root ≡ region_of c.vertices → WalkState c 0 (root ∷ [])
-walk_first c root is e = record {
+pub awaits_first : (c : CertView) (root : Area) → IsCertificate c → root ≡ region_of c.vertices → Awaits c 0 (root ∷ [])
+awaits_first c root is e = record {
   waiting = [] ∷ [];
   walked = walked_first c.events is.tree;
   cells_are = ap (λ (R : Area). R ∷ []) (e ∙ sym (append-nil (region_of c.vertices)));
   stacked = (omega arith, tt);
-  good = λ k e l at. absurd (omega arith);
 }
+
+pub walk_first : (c : CertView) (root : Area) → IsCertificate c → root ≡ region_of c.vertices → WalkState c 0 (root ∷ [])
+walk_first c root is e = record { awaits = awaits_first c root is e; good = λ k e l at. absurd (omega arith) }
 
 -- the event at a place
 here : (c : CertView) (i : ℕ) → i < length c.events → (e : Entry) × (slice_get c.events i ≡ Some e)
 here c i l = let d : Entry = record { path = []; outcome = Left Memory } in (get_or c.events i d, slice_get-get_or c.events i d l)
 
 -- where a node is to come, so is its cell
-pub some_cell : (c : CertView) (i : ℕ) → i < length c.events → WalkState c i [] → ⊥
+pub some_cell : (c : CertView) (i : ℕ) → i < length c.events → Awaits c i [] → ⊥
 some_cell c i l s =
     let e = here c i l in
     let t = walked_takes c.events i s.waiting e.0 s.walked e.1 in
@@ -104,7 +92,7 @@ head_is x y xs ys e = cc
 tail_is : (x y : Area) (xs ys : List Area) → x ∷ xs ≡ y ∷ ys → xs ≡ ys
 tail_is x y xs ys e = cc
 
-module _ (c : CertView) (i : ℕ) (R : Area) (rest : List Area) (s : WalkState c i (R ∷ rest)) (e : Entry) (at : slice_get c.events i ≡ Some e) where
+module _ (c : CertView) (i : ℕ) (R : Area) (rest : List Area) (s : Awaits c i (R ∷ rest)) (e : Entry) (at : slice_get c.events i ≡ Some e) where
   t : Takes c.events i s.waiting e
   t = walked_takes c.events i s.waiting e s.walked at
 
@@ -134,17 +122,16 @@ module _ (c : CertView) (i : ℕ) (R : Area) (rest : List Area) (s : WalkState c
   }
 
   -- the cells of its parts come before the others
-  pub walk_next : Proves R c.limits c.events (length e.path) e.outcome → IsProvedOf R e.outcome → (parts : List Area) → parts ≡ map (node_region c) (parts_by e.path e.outcome) → WalkState c (i + 1) (parts ++ rest)
-  walk_next proves sound parts are = record {
+  pub awaits_next : (parts : List Area) → parts ≡ map (node_region c) (parts_by e.path e.outcome) → Awaits c (i + 1) (parts ++ rest)
+  awaits_next parts are = record {
     waiting = parts_by e.path e.outcome ++ t.rest;
     walked = t.next;
     cells_are = ap₂ (λ (xs ys : List Area). xs ++ ys) are rest_is ∙ sym (map-append (node_region c) (parts_by e.path e.outcome) t.rest);
     stacked = stacked_parts e.path e.outcome t.rest stacked_here;
-    good = good_more c i e at s.good (walk_good proves sound);
   }
 
-  pub walk_leaf : IsGoodLeaf R c.limits c.events (length e.path) e.outcome → WalkState c (i + 1) rest
-  walk_leaf leaf = walk_next leaf.proves leaf.sound [] (ap (map (node_region c)) (sym (no_parts e.path e.outcome leaf.no_cut)))
+  pub awaits_leaf : ((h : LinearForm) → e.outcome ≡ Cut h → ⊥) → Awaits c (i + 1) rest
+  awaits_leaf no_cut = awaits_next [] (ap (map (node_region c)) (sym (no_parts e.path e.outcome no_cut)))
 
   -- the cell of a part
   part_is : (h : LinearForm) (side : Side) → e.outcome ≡ Cut h → node_region c (e.path ++ side ∷ []) ≡ R ++ cut_half (Some (Cut h)) side
@@ -152,19 +139,29 @@ module _ (c : CertView) (i : ℕ) (R : Area) (rest : List Area) (s : WalkState c
       region_at-snoc (region_of c.vertices) (outcome_at c.events) e.path side
       ∙ ap₂ (λ (A : Area) (o : Option Outcome). A ++ cut_half o side) (sym cell_is) (walked_outcome c.events i e t.rest at t.is_open ∙ ap Some q)
 
-  pub walk_cut : (x y : Area) → IsDivided R e.outcome x y → WalkState c (i + 1) (x ∷ y ∷ rest)
-  walk_cut x y d =
-      walk_next (subst (λ (o : Outcome). Proves R c.limits c.events (length e.path) o) (sym d.is_cut) d.parts.divides) (subst (λ (o : Outcome). IsProvedOf R o) (sym d.is_cut) d.parts.divides) (x ∷ y ∷ [])
+  pub awaits_cut : (x y : Area) → IsDivided R e.outcome x y → Awaits c (i + 1) (x ∷ y ∷ rest)
+  awaits_cut x y d =
+      awaits_next (x ∷ y ∷ [])
       (ap₂ (λ (a b : Area). a ∷ b ∷ []) (d.parts.above ∙ sym (part_is d.form Ge d.is_cut)) (d.parts.below ∙ sym (part_is d.form Lt d.is_cut))
       ∙ ap (λ (o : Outcome). map (node_region c) (parts_by e.path o)) (sym d.is_cut))
 
-  pub walk_fault : (fault : Fault) → Fails R c.limits c.events (length e.path) e.outcome fault → IsFaultOf c i fault
-  walk_fault fault wrong = record {
-    entry = e;
-    is = at;
-    wrong = subst (λ (A : Area). Fails A c.limits c.events (length e.path) e.outcome fault) cell_is wrong;
-    before = λ k f l bt. (s.good k f l bt).proves;
+  pub divided_good : (x y : Area) → IsDivided R e.outcome x y → IsGood c e
+  divided_good x y d =
+      walk_good (subst (λ (o : Outcome). Proves R c.limits c.events (length e.path) o) (sym d.is_cut) d.parts.divides)
+      (subst (λ (o : Outcome). IsProvedOf R o) (sym d.is_cut) d.parts.divides)
+
+  pub fails_here : (fault : Fault) → Fails R c.limits c.events (length e.path) e.outcome fault → Fails (node_region c e.path) c.limits c.events (length e.path) e.outcome fault
+  fails_here fault wrong = subst (λ (A : Area). Fails A c.limits c.events (length e.path) e.outcome fault) cell_is wrong
+
+module _ (c : CertView) (i : ℕ) (R : Area) (rest : List Area) (s : WalkState c i (R ∷ rest)) (e : Entry) (at : slice_get c.events i ≡ Some e) where
+  pub walk_next : Proves R c.limits c.events (length e.path) e.outcome → IsProvedOf R e.outcome → (parts : List Area) → parts ≡ map (node_region c) (parts_by e.path e.outcome) → WalkState c (i + 1) (parts ++ rest)
+  walk_next proves sound parts are = record {
+    awaits = awaits_next c i R rest s.awaits e at parts are;
+    good = good_more c i e at s.good (walk_good c i R rest s.awaits e at proves sound);
   }
+
+  pub walk_fault : (fault : Fault) → Fails R c.limits c.events (length e.path) e.outcome fault → IsFaultOf c i fault
+  walk_fault fault wrong = record { entry = e; is = at; wrong = fails_here c i R rest s.awaits e at fault wrong; before = λ k f l bt. (s.good k f l bt).proves }
 
 -- the halves of a cell: those of the root, and one for each side of its path
 few_half : (o : Option Outcome) (s : Side) → length (cut_half o s) ≤ 1
@@ -182,9 +179,9 @@ pub few_at : (c : CertView) → IsCertificate c → (path : List Side) → lengt
 few_at c is path =
     omega (arith, length-append (region_of c.vertices) (halves_along (outcome_at c.events) [] path), few_along (outcome_at c.events) [] path, few_halves c.vertices (region_of c.vertices) is.polygon.counted refl)
 
-module _ (c : CertView) (i : ℕ) (cells : List Area) (s : WalkState c i cells) (l : length c.events ≤ i) where
+module _ (c : CertView) (i : ℕ) (good : AreGood c i) (l : length c.events ≤ i) where
   all_good : (k : ℕ) (e : Entry) → slice_get c.events k ≡ Some e → IsGood c e
-  all_good k e at = s.good k e (omega (arith, slice_get_within c.events k e at)) at
+  all_good k e at = good k e (omega (arith, slice_get_within c.events k e at)) at
 
   pub walk_proves : IsProved c
   walk_proves k e at = (all_good k e at).proves
@@ -195,28 +192,5 @@ module _ (c : CertView) (i : ℕ) (cells : List Area) (s : WalkState c i cells) 
     sound = λ k e at. (all_good k e at).sound;
   }
 
-pub few_here : (c : CertView) (i : ℕ) (R : Area) (rest : List Area) → IsCertificate c → WalkState c i (R ∷ rest) → (e : Entry) → slice_get c.events i ≡ Some e → length R ≤ 16 + length e.path
+pub few_here : (c : CertView) (i : ℕ) (R : Area) (rest : List Area) → IsCertificate c → Awaits c i (R ∷ rest) → (e : Entry) → slice_get c.events i ≡ Some e → length R ≤ 16 + length e.path
 few_here c i R rest is s e at = omega (arith, ap length (cell_is c i R rest s e at), few_at c is e.path)
-
--- what the test of the node at a place tells
-abbrev pub IsTestedAt : CertView → ℕ → Area → Tested → Type 0
-IsTestedAt c i R t = (e : Entry) → slice_get c.events i ≡ Some e → IsTested R c.limits c.events (length e.path) e.outcome t
-
-module _ (c : CertView) (i : ℕ) (l : i < length c.events) (R : Area) (rest : List Area) (s : WalkState c i (R ∷ rest)) (t : Tested) (tested : IsTestedAt c i R t) where
-  told : (u : Tested) → t ≡ u → (e : Entry) → slice_get c.events i ≡ Some e → IsTested R c.limits c.events (length e.path) e.outcome u
-  told u q e at = subst (IsTested R c.limits c.events (length e.path) e.outcome) q (tested e at)
-
-  pub after_leaf : t ≡ Leaf → WalkState c (i + 1) rest
-  after_leaf q = let e = here c i l in walk_leaf c i R rest s e.0 e.1 (told Leaf q e.0 e.1)
-
-  pub after_cut : (x y : Cell) → t ≡ Divided x y → WalkState c (i + 1) (x ∷ y ∷ rest)
-  after_cut x y q = let e = here c i l in walk_cut c i R rest s e.0 e.1 x y (told (Divided x y) q e.0 e.1)
-
-  pub few_after : IsCertificate c → (x y : Cell) → t ≡ Divided x y → length rest < 48
-  few_after is x y q =
-      let e = here c i l in
-      let d : IsDivided R e.0.outcome x y = told (Divided x y) q e.0 e.1 in
-      few_wait c i R rest s e.0 e.1 is d.form d.is_cut
-
-  pub after_fault : (fault : Fault) → t ≡ Wrong fault → IsFaultOf c i fault
-  after_fault fault q = let e = here c i l in walk_fault c i R rest s e.0 e.1 fault (told (Wrong fault) q e.0 e.1)

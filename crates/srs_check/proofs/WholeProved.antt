@@ -28,7 +28,10 @@ use Rattle.srs_cert.specs.Certificates.{CertView}
 use Rattle.srs_check.specs.Listed.{RankList, IsListed, IsBelow, ProvesInside}
 use Rattle.srs_check.specs.Budgets.{nodes_upto, nodes_at, SpendsCells}
 use Rattle.srs_check.specs.Proving.{Proves, ProvesItself, node_region}
-use Rattle.srs_check.specs.Whole.{IsOfWhole, WholeIsProved}
+use Rattle.srs_check.specs.declared.faults.Checked.{Checked}
+use Rattle.srs_check.specs.declared.faults.Checked.TheVariants.{Valid, Bad}
+use Rattle.srs_check.specs.Faults.{IsChecked}
+use Rattle.srs_check.specs.Whole.{IsOfWhole, WholeIsProved, IsValid}
 use Rattle.srs_cert.proofs.Preordered.{walked_all, walked_takes, walked_outcome}
 use Rattle.srs_check.proofs.WholeCounts.{preorder_same, upto_same, row_same}
 
@@ -121,3 +124,8 @@ module _ (c : CertView) (budget : IsBudget c.limits) (w : IsOfWhole c) where
 
 pub whole_proved : WholeIsProved
 whole_proved c budget w i e at = node c budget w i e at
+
+-- no node of such a certificate is bad
+pub whole_valid : (c : CertView) (answer : Checked) → IsBudget c.limits → IsOfWhole c → IsChecked c answer → IsValid answer
+whole_valid c (Valid counts) budget w checked = tt
+whole_valid c (Bad line fault) budget w checked = checked.1 (whole_proved c budget w)

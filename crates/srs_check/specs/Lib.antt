@@ -5,7 +5,11 @@ pub mod Budgets
 pub mod Proving
 pub mod Faults
 pub mod Tested
+pub mod Tallies
+pub mod Walks
 pub mod Certified
 pub mod Whole
 pub mod Builds
 pub mod Separated
+pub mod LineChecks
+pub mod Streams

@@ -8,9 +8,9 @@ ghost use Rattle.srs_tree.specs.Tree.{region_at};
 ghost use Rattle.srs_tree.specs.Snapshots.{tree_of, with_entry};
 ghost use Rattle.srs_check.specs.Builds.{as_built, IsBuiltFrom};
 
-use crate::checks::{count_nodes, root_of};
+use crate::checks::root_of;
 use crate::nodes::check_node;
-use crate::rows::{node_count, rows_of};
+use crate::tally::{node_count, tally_of};
 use crate::waiting::Waiting;
 use crate::{Counts, Fault};
 use srs_cell::Cell;
@@ -35,7 +35,8 @@ pub fn build(alloc: Global, c: &Cert) -> Result<Built, NoMemory>
     ensures { IfOk result (IsBuiltFrom c.now) }
 {
     let nodes = node_count(c);
-    let rows = rows_of(c);
+    let tally = tally_of(c);
+    let limits = c.limits();
     let mut tree = TreeBuilder::start(alloc, root_of(alloc, c)?)?;
     let mut waiting = Waiting::of(alloc, tree.root()?);
     for i in 0..nodes {
@@ -43,14 +44,15 @@ pub fn build(alloc: Global, c: &Cert) -> Result<Built, NoMemory>
             unreachable!()
         };
         let event = c.events().get(i as u64);
-        if let Err(fault) = check_node(c, &rows, &next.cell, event) {
+        let depth = event.path.len();
+        if let Err(fault) = check_node(&limits, &tally.rows, &next.cell, depth, event.outcome.as_ref()) {
             return Ok(Built::Bad(c.line(i), fault));
         }
         if let Some((ge, lt)) = enter(alloc, &mut tree, event, next.place, &next.cell)? {
             waiting.divide(ge, lt);
         }
     }
-    Ok(Built::Valid(tree.finish(), count_nodes(c)))
+    Ok(Built::Valid(tree.finish(), tally.counts))
 }
 
 // The event comes to the cell at its path, which is open and stands at this place, and the cells that it makes are given.

@@ -1,19 +1,16 @@
 // The check of a certificate.
-ghost use Rattle.std.specs.Prelude.{◌≡◌, IfOk, IsNone, IfNone, MatchOption};
+ghost use Rattle.std.specs.Prelude.{◌≡◌, IfOk};
 ghost use Rattle.srs_plane.specs.Polygons.{IsPolygon, region_of};
-ghost use Rattle.srs_check.specs.Proving.{IsProved};
-ghost use Rattle.srs_check.specs.Faults.{counts_of, IsChecked, IsFaultOf};
-ghost use Rattle.srs_check.specs.Certified.{IsCertified, Certifies};
+ghost use Rattle.srs_check.specs.Faults.{IsChecked};
+ghost use Rattle.srs_check.specs.Certified.{Certifies};
 ghost use Rattle.srs_check.specs.Whole.{IsOfWhole, IsValid};
 
-use crate::nodes::{Tested, test_node};
-use crate::rows::{node_count, rows_of};
-use crate::waiting::Waiting;
-use crate::{Checked, Counts, Fault};
+use crate::Checked;
+use crate::tally::node_count;
+use crate::walk::Walk;
 use srs_cell::Cell;
 use srs_cert::Cert;
 use srs_num::NoMemory;
-use srs_path::Outcome;
 use srs_plane::{PolyErr, Vertex, polygon};
 use std::alloc::Global;
 
@@ -26,11 +23,14 @@ pub fn check(alloc: Global, c: &Cert) -> Result<Checked, NoMemory>
     ensures certified { IfOk result (Certifies c.now) }
     ensures whole { IsOfWhole c.now → IfOk result IsValid }
 {
-    let root = root_of(alloc, c)?;
-    match first_fault(alloc, c, root)? {
-        Some((node, fault)) => Ok(Checked::Bad(c.line(node), fault)),
-        None => Ok(Checked::Valid(count_nodes(c))),
+    let mut walk = Walk::of(alloc, root_of(alloc, c)?);
+    let limits = c.limits();
+    for i in 0..node_count(c) {
+        let event = c.events().get(i as u64);
+        let depth = event.path.len();
+        walk.node(alloc, &limits, c.line(i), depth, event.outcome.as_ref())?;
     }
+    Ok(walk.end(&limits))
 }
 
 // The cell of the polygon.
@@ -56,50 +56,4 @@ pub fn polygon_cell(alloc: Global, vertices: &[Vertex]) -> Result<Cell, NoMemory
         Some(cell) => Ok(cell),
         None => unreachable!(),
     }
-}
-
-// The first node that doesn't prove itself, and its fault.
-fn first_fault(alloc: Global, c: &Cert, root: Cell) -> Result<Option<(u32, Fault)>, NoMemory>
-    requires { root ≡ region_of c.now.vertices }
-    ensures fault { IfOk result
-        (λ found. MatchOption found (IsProved c.now) (λ f. IsFaultOf c.now f.0 f.1)) }
-    ensures certified { IfOk result (λ found. IfNone found (IsCertified c.now)) }
-    ensures whole { IsOfWhole c.now → IfOk result IsNone }
-{
-    let rows = rows_of(c);
-    let mut waiting = Waiting::of(alloc, root);
-    for i in 0..node_count(c) {
-        let Some(cell) = waiting.take() else {
-            unreachable!()
-        };
-        match test_node(alloc, c, &rows, i, &cell)? {
-            Tested::Leaf => {}
-            Tested::Divided(ge, lt) => waiting.divide(ge, lt),
-            Tested::Wrong(fault) => return Ok(Some((i, fault))),
-        }
-    }
-    Ok(None)
-}
-
-/// How many nodes there are, and how many of each kind.
-pub fn count_nodes(c: &Cert) -> Counts
-    ensures { result ≡ counts_of c.now.events }
-{
-    let mut counts = Counts {
-        cells: 0,
-        inside: 0,
-        outside: 0,
-        cut: 0,
-        left: 0,
-    };
-    for i in 0..node_count(c) {
-        counts.cells += 1;
-        match c.events().get(i as u64).outcome.as_ref() {
-            Outcome::Inside(_) => counts.inside += 1,
-            Outcome::Outside(_) => counts.outside += 1,
-            Outcome::Cut(_) => counts.cut += 1,
-            Outcome::Left(_) => counts.left += 1,
-        }
-    }
-    counts
 }

@@ -1,9 +1,10 @@
 // The test of one node.
-ghost use Rattle.std.specs.Prelude.{◌≡◌, ◌≤◌, ◌<◌, ◌+◌, length, slice_get, Some, IfOk, IfErr, OnOk};
+ghost use Rattle.std.specs.Prelude.{◌≡◌, ◌<◌, ℕ, length, IfOk, IfErr, OnOk};
+ghost use Rattle.srs_path.specs.Views.{Budget};
 ghost use Rattle.srs_plane.specs.Regions.{Divides};
-ghost use Rattle.srs_path.specs.declared.outcomes.Outcome.TheVariants.{Outside, Left};
+ghost use Rattle.srs_path.specs.declared.outcomes.Outcome.TheVariants.{Inside, Outside, Left};
 ghost use Rattle.srs_path.specs.Cutout.{Covers};
-ghost use Rattle.srs_path.specs.Views.{Entry};
+ghost use Rattle.srs_tree.specs.Tree.{History};
 ghost use Rattle.srs_tree.specs.Growth.{IsProvedOf};
 ghost use Rattle.srs_check.specs.Budgets.{CountsRows};
 ghost use Rattle.srs_check.specs.Proving.{Proves};
@@ -13,65 +14,100 @@ ghost use Rattle.srs_check.specs.declared.faults.Fault.TheVariants.{NotProper};
 
 use crate::Fault;
 use crate::listed::check_inside;
-use crate::rows::{Rows, spends_cells};
+use crate::tally::{Rows, spends_cells};
 use srs_cell::{Cell, Parts, divides};
-use srs_cert::Cert;
 use srs_cut::{Judged, judge};
 use srs_grid::line;
 use srs_num::{Form, NoMemory};
-use srs_path::{Cause, Cycle, Event, Outcome};
+use srs_path::{Cause, Cycle, Limits, Outcome, Ranks};
 use std::alloc::Global;
 
-// What the test of a node tells: a leaf that proves itself, the two parts of a cut, or a fault.
+// What the test of a node tells: a leaf that proves itself; the two parts of a cut; a leaf that proves itself where the
+// number of cells is spent, which all nodes decide; or a fault.
 #[derive(Drop)]
 pub(crate) enum Tested {
     Leaf,
     Divided(Cell, Cell),
+    Unsettled,
     Wrong(Fault),
 }
 
-// The test of the node number `i`, which has this cell. A cut is tested by making its parts.
+// The test of a node of this depth, which has this cell. A cut is tested by making its parts.
 pub(crate) fn test_node(
     alloc: Global,
-    c: &Cert,
-    rows: &Rows,
-    i: u32,
+    limits: &Limits,
     cell: &Cell,
+    depth: u32,
+    outcome: &Outcome,
 ) -> Result<Tested, NoMemory>
-    requires there { i < length c.now.events }
-    requires rows { CountsRows c.now.events rows.now }
-    requires few { (e : Entry) → slice_get c.now.events i ≡ Some e →
-        length cell.now ≤ 16 + length e.path }
-    ensures { IfOk result
-        (λ t. (e : Entry) → slice_get c.now.events i ≡ Some e →
-        IsTested cell.now c.now.limits c.now.events (length e.path) e.outcome t) }
+    requires few { length cell.now < 80 }
+    ensures { IfOk result (IsTested cell.now limits.now depth outcome.now) }
 {
-    let event = c.events().get(i as u64);
-    if let Outcome::Cut(h) = event.outcome.as_ref() {
-        // A path has at most 48 sides, so a cell has at most 64 halves.
-        let _ = event.path.len();
-        return check_cut(alloc, cell, h);
-    }
-    match check_node(c, rows, cell, event) {
-        Ok(()) => Ok(Tested::Leaf),
-        Err(fault) => Ok(Tested::Wrong(fault)),
+    match outcome {
+        Outcome::Inside(ranks) => Ok(test_inside(cell, ranks)),
+        Outcome::Outside(cycle) => Ok(test_outside(cell, cycle)),
+        Outcome::Left(cause) => Ok(test_left(limits, cell, depth, *cause)),
+        Outcome::Cut(h) => check_cut(alloc, cell, h),
     }
 }
 
-// Whether the node of the event, which has this cell, proves itself. No part is made.
-pub(crate) fn check_node(c: &Cert, rows: &Rows, cell: &Cell, event: &Event) -> Result<(), Fault>
-    requires { CountsRows c.now.events rows.now }
-    ensures ok { OnOk result
-        (Proves cell.now c.now.limits c.now.events (length event.now.path) event.now.outcome) }
-    ensures sound { OnOk result (IsProvedOf cell.now event.now.outcome) }
-    ensures err { IfErr result
-        (Fails cell.now c.now.limits c.now.events (length event.now.path) event.now.outcome) }
+fn test_inside(cell: &Cell, ranks: &Ranks) -> Tested
+    ensures { (L : Budget) (k : ℕ) → IsTested cell.now L k (Inside ranks.now) result }
 {
-    let depth = event.path.len();
-    match event.outcome.as_ref() {
+    match check_inside(cell, ranks) {
+        Ok(()) => Tested::Leaf,
+        Err(fault) => Tested::Wrong(fault),
+    }
+}
+
+fn test_outside(cell: &Cell, cycle: &Cycle) -> Tested
+    ensures { (L : Budget) (k : ℕ) → IsTested cell.now L k (Outside cycle.now) result }
+{
+    match check_outside(cell, cycle) {
+        Ok(()) => Tested::Leaf,
+        Err(fault) => Tested::Wrong(fault),
+    }
+}
+
+// Whether the depth is the greatest, or there is no grid line.
+fn test_left(limits: &Limits, cell: &Cell, depth: u32, cause: Cause) -> Tested
+    ensures { IsTested cell.now limits.now depth (Left cause) result }
+{
+    match cause {
+        Cause::Depth(_) => {
+            if depth == limits.depth() {
+                Tested::Leaf
+            } else {
+                Tested::Wrong(Fault::NoBudget)
+            }
+        }
+        Cause::Cells(_) => Tested::Unsettled,
+        Cause::Thin => match line(cell) {
+            None => Tested::Leaf,
+            Some(_) => Tested::Wrong(Fault::NoBudget),
+        },
+        Cause::Memory => Tested::Leaf,
+    }
+}
+
+// Whether a node of this depth, which has this cell, proves itself among the nodes that were counted. No part is made.
+pub(crate) fn check_node(
+    limits: &Limits,
+    rows: &Rows,
+    cell: &Cell,
+    depth: u32,
+    outcome: &Outcome,
+) -> Result<(), Fault>
+    ensures ok { OnOk result ((H : History) → CountsRows H rows.now →
+        Proves cell.now limits.now H depth outcome.now) }
+    ensures sound { OnOk result (IsProvedOf cell.now outcome.now) }
+    ensures err { IfErr result (λ fault. (H : History) → CountsRows H rows.now →
+        Fails cell.now limits.now H depth outcome.now fault) }
+{
+    match outcome {
         Outcome::Inside(ranks) => check_inside(cell, ranks),
         Outcome::Outside(cycle) => check_outside(cell, cycle),
-        Outcome::Left(cause) => check_left(c, rows, cell, depth, *cause),
+        Outcome::Left(cause) => check_left(limits, rows, cell, depth, *cause),
         Outcome::Cut(h) => check_proper(cell, h),
     }
 }
@@ -114,19 +150,28 @@ fn check_cut(alloc: Global, cell: &Cell, h: &Form) -> Result<Tested, NoMemory>
 }
 
 // Whether the budget is spent, or there is no grid line.
-fn check_left(c: &Cert, rows: &Rows, cell: &Cell, depth: u32, cause: Cause) -> Result<(), Fault>
-    requires { CountsRows c.now.events rows.now }
-    ensures ok { OnOk result (Proves cell.now c.now.limits c.now.events depth (Left cause)) }
-    ensures err { IfErr result (Fails cell.now c.now.limits c.now.events depth (Left cause)) }
+fn check_left(
+    limits: &Limits,
+    rows: &Rows,
+    cell: &Cell,
+    depth: u32,
+    cause: Cause,
+) -> Result<(), Fault>
+    ensures ok { OnOk result ((H : History) → CountsRows H rows.now →
+        Proves cell.now limits.now H depth (Left cause)) }
+    ensures err { IfErr result (λ fault. (H : History) → CountsRows H rows.now →
+        Fails cell.now limits.now H depth (Left cause) fault) }
 {
-    let holds = match cause {
-        Cause::Depth(_) => depth == c.limits().depth(),
-        Cause::Cells(_) => spends_cells(c, rows, depth),
-        Cause::Thin => line(cell).is_none(),
-        Cause::Memory => true,
-    };
-    if !holds {
-        return Err(Fault::NoBudget);
+    match test_left(limits, cell, depth, cause) {
+        Tested::Leaf => Ok(()),
+        Tested::Unsettled => {
+            if spends_cells(limits, rows, depth) {
+                Ok(())
+            } else {
+                Err(Fault::NoBudget)
+            }
+        }
+        Tested::Wrong(fault) => Err(fault),
+        Tested::Divided(_, _) => unreachable!(),
     }
-    Ok(())
 }

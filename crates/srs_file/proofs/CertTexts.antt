@@ -60,7 +60,7 @@ step_text Nodes s t line at (inl (a, tree, p, e)) fine =
 step_text Nodes s t line at (inr (a, p, e)) fine = rw (e, p) (refl, (fine.0, fine.1, a))
 step_text Done s t line at p fine = absurd p
 
-runs_text : (s t : CertReader) (lines : List (List ℕ)) → Runs CertSteps s lines t → IsFine s.phase s → (spelled t.phase t ≡ spelled s.phase s ++ lines_text lines) × IsFine t.phase t
+pub runs_text : (s t : CertReader) (lines : List (List ℕ)) → Runs CertSteps s lines t → IsFine s.phase s → (spelled t.phase t ≡ spelled s.phase s ++ lines_text lines) × IsFine t.phase t
 runs_text s t [] e fine = rw (← e) (sym (append-nil (spelled s.phase s)), fine)
 runs_text s t (line ∷ lines) (u, step, plain, runs) fine =
     let one = step_text s.phase s u line refl step fine in

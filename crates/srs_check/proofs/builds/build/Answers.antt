@@ -1,4 +1,4 @@
-use Rattle.std.proofs.Common.{◌≡◌, ◌+◌, ◌∷◌, ◌++◌, List, length, slice_get, Some, refl, sym, ap, subst, ◌∙◌, arith, lit<}
+use Rattle.std.proofs.Common.{◌≡◌, ◌+◌, ◌∷◌, ◌++◌, ℕ, List, length, slice_get, Some, refl, sym, ap, subst, ◌∙◌, arith, lit<}
 use Rattle.std.specs.FinMap as finite
 use Rattle.std.specs.declared.option.Option.{Option}
 use Rattle.srs_plane.specs.Regions.{Area}
@@ -10,9 +10,12 @@ use Rattle.srs_tree.specs.Snapshots.{Snapshot}
 use Rattle.srs_check.specs.Builds.{IsBuilt}
 use Rattle.srs_check.specs.Proving.{Proves}
 use Rattle.srs_check.specs.Faults.{Fails}
-use Rattle.srs_check.proofs.Answering.{same_get}
+use Rattle.srs_path.specs.declared.outcomes.Outcome.{Outcome}
+use Rattle.srs_path.specs.Views.{Budget, Entry}
+use Rattle.srs_check.proofs.Answering.{same_get, same_node}
 use Rattle.srs_check.proofs.Excluded.{first_fault}
-use Rattle.srs_check.proofs.WalkStates.{WalkState, some_cell, walk_fault, walk_proves, walk_certifies}
+use Rattle.srs_check.specs.Walks.{Awaits}
+use Rattle.srs_check.proofs.WalkStates.{some_cell, walk_fault, walk_proves, walk_certifies}
 use Rattle.srs_check.proofs.Building.{GrownTo, regions_of, grown_first, grown_next, grown_last, cell_is_open, few_behind, same_region, cut_is_short}
 use Rattle.srs_check.proofs.builds.build.Goals as goal
 use Rattle.srs_check.proofs.builds.build.Goals.{in-Some-2, in_default-2}
@@ -30,14 +33,19 @@ loop-i-init c =
 
 pub unreachable-requires : goal.unreachable-requires
 unreachable-requires c =
-    some_cell c.args.c.now c.loop-i.i (omega arith) (subst (λ (xs : List WaitingCell). WalkState c.args.c.now c.loop-i.i (regions_of xs)) c.in_default.ensures c.loop-i.invariant.walk)
+    some_cell c.args.c.now c.loop-i.i (omega arith) (subst (λ (xs : List WaitingCell). Awaits c.args.c.now c.loop-i.i (regions_of xs)) c.in_default.ensures c.loop-i.invariant.walk.awaits)
 
 pub returns-in-Err : goal.returns-in-Err
 returns-in-Err c =
     let s : GrownTo c.args.c.now c.loop-i.i (c.in-Some.next ∷ c.take.new.self) c.loop-i.tree = subst (λ (xs : List WaitingCell). GrownTo c.args.c.now c.loop-i.i xs c.loop-i.tree) c.in-Some.ensures c.loop-i.invariant in
     let at : slice_get c.args.c.now.events c.loop-i.i ≡ Some c.get-event.result.now = same_get c.events.result.now c.args.c.now.events c.loop-i.i c.get-event.result.now c.events.ensures.events c.get-event.ensures in
     let region : c.deref.result.now ≡ c.in-Some.next.region = c.deref.ensures ∙ ap (λ (w : WaitingCell). w.region) c.next.view_is in
-    let wrong = subst (λ (R : Area). Fails R c.args.c.now.limits c.args.c.now.events (length c.get-event.result.now.path) c.get-event.result.now.outcome c.in-Err.fault) region c.in-Err.ensures.err in
+    let depth : length c.get-event.result.now.path ≡ c.len-depth.result = ap (λ (x : Entry). length x.path) (sym c.event.view_is) ∙ sym c.len-depth.ensures.len in
+    let outcome : c.get-event.result.now.outcome ≡ c.as_ref.result.now = ap (λ (x : Entry). x.outcome) (sym c.event.view_is) ∙ sym c.as_ref.ensures in
+    let limits : c.args.c.now.limits ≡ c.limits-limits.result = sym c.limits-limits.ensures in
+    let told = same_node (λ (L : Budget) (k : ℕ) (o : Outcome). Fails c.deref.result.now L c.args.c.now.events k o c.in-Err.fault) c.limits-limits.result c.args.c.now.limits c.len-depth.result (length c.get-event.result.now.path) c.as_ref.result.now c.get-event.result.now.outcome
+    limits depth outcome (c.in-Err.ensures.err c.args.c.now.events c.tally_of-tally.ensures.rows) in
+    let wrong = subst (λ (R : Area). Fails R c.args.c.now.limits c.args.c.now.events (length c.get-event.result.now.path) c.get-event.result.now.outcome c.in-Err.fault) region told in
     first_fault c.args.c.now c.line.result c.loop-i.i c.in-Err.fault c.line.ensures
     (walk_fault c.args.c.now c.loop-i.i c.in-Some.next.region (regions_of c.take.new.self) s.walk c.get-event.result.now at c.in-Err.fault wrong)
 
@@ -71,8 +79,13 @@ loop-i-preserved c =
     let s : GrownTo c.args.c.now c.loop-i.i (c.in-Some.next ∷ c.take.new.self) c.loop-i.tree = subst (λ (xs : List WaitingCell). GrownTo c.args.c.now c.loop-i.i xs c.loop-i.tree) c.in-Some.ensures c.loop-i.invariant in
     let at : slice_get c.args.c.now.events c.loop-i.i ≡ Some c.get-event.result.now = same_get c.events.result.now c.args.c.now.events c.loop-i.i c.get-event.result.now c.events.ensures.events c.get-event.ensures in
     let region : c.deref.result.now ≡ c.in-Some.next.region = c.deref.ensures ∙ ap (λ (w : WaitingCell). w.region) c.next.view_is in
-    let proves = subst (λ (R : Area). Proves R c.args.c.now.limits c.args.c.now.events (length c.get-event.result.now.path) c.get-event.result.now.outcome) region c.in_default-check_node.ensures.ok in
-    let sound = subst (λ (R : Area). IsProvedOf R c.get-event.result.now.outcome) region c.in_default-check_node.ensures.sound in
+    let depth : length c.get-event.result.now.path ≡ c.len-depth.result = ap (λ (x : Entry). length x.path) (sym c.event.view_is) ∙ sym c.len-depth.ensures.len in
+    let outcome : c.get-event.result.now.outcome ≡ c.as_ref.result.now = ap (λ (x : Entry). x.outcome) (sym c.event.view_is) ∙ sym c.as_ref.ensures in
+    let limits : c.args.c.now.limits ≡ c.limits-limits.result = sym c.limits-limits.ensures in
+    let told = same_node (λ (L : Budget) (k : ℕ) (o : Outcome). Proves c.deref.result.now L c.args.c.now.events k o) c.limits-limits.result c.args.c.now.limits c.len-depth.result (length c.get-event.result.now.path) c.as_ref.result.now c.get-event.result.now.outcome
+    limits depth outcome (c.in_default-check_node.ensures.ok c.args.c.now.events c.tally_of-tally.ensures.rows) in
+    let proves = subst (λ (R : Area). Proves R c.args.c.now.limits c.args.c.now.events (length c.get-event.result.now.path) c.get-event.result.now.outcome) region told in
+    let sound = subst (λ (R : Area). IsProvedOf R c.get-event.result.now.outcome) region (subst (IsProvedOf c.deref.result.now) (sym outcome) c.in_default-check_node.ensures.sound) in
     let grown : GrownTo c.args.c.now (c.loop-i.i + 1) (cells_from c.in_ok-ge.field-0 ++ c.take.new.self) c.enter.new.tree
     = grown_next c.args.c.now c.node_count-nodes.ensures.certificate c.loop-i.i c.in-Some.next c.take.new.self c.loop-i.tree s c.get-event.result.now at proves sound
     c.enter.new.tree c.in_ok-ge.ensures.entered (cells_from c.in_ok-ge.field-0) c.in_ok-ge.ensures.parts in
@@ -89,6 +102,6 @@ pub returns : goal.returns
 returns c =
     let walk = c.loop-i.invariant.walk in (
       subst (IsBuilt c.args.c.now) (sym c.finish.ensures) (grown_last c.args.c.now c.loop-i.i c.loop-i.waiting c.loop-i.tree c.loop-i.invariant (omega arith)),
-      (walk_proves c.args.c.now c.loop-i.i (regions_of c.loop-i.waiting) walk (omega arith), c.count_nodes.ensures),
-      walk_certifies c.args.c.now c.loop-i.i (regions_of c.loop-i.waiting) walk (omega arith) c.node_count-nodes.ensures.certificate,
+      (walk_proves c.args.c.now c.loop-i.i walk.good (omega arith), c.tally_of-tally.ensures.counts),
+      walk_certifies c.args.c.now c.loop-i.i walk.good (omega arith) c.node_count-nodes.ensures.certificate,
     )

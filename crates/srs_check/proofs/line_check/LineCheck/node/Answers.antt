@@ -1,0 +1,48 @@
+use Rattle.std.proofs.Common.{◌≡◌, ◌∷◌, [], ◌++◌, ℕ, List, length, Some, None, sym, ap, subst, ◌∙◌}
+use Rattle.std.proofs.lemmas.Option.{none-some, same_Some}
+use Rattle.srs_plane.specs.Polygons.{IsPolygon}
+use Rattle.srs_file.specs.declared.cert_reader.CertReader.{CertReader}
+use Rattle.srs_check.specs.Walks.{HasCome}
+use Rattle.srs_check.specs.LineChecks.{WalksWith}
+use Rattle.srs_check.proofs.LineSteps.{limits_fed}
+use Rattle.srs_check.proofs.Reading.{some_certificate, keeps, one_event_more, comes, from_before}
+use Rattle.srs_check.proofs.line_check.LineCheck.node.Goals as goal
+
+pub unreachable-requires : goal.unreachable-requires
+unreachable-requires c =
+    let r = c.requires in
+    let k = r.2 in
+    let head = keeps r.0 r.1 c.args.node.now k.before k.state k.runs k.step k.fed.runs k.ends in
+    none-some k.state.tree.limits (c.in_default.ensures ∙ limits_fed c.args.self.now.feed (r.0 ++ r.1 ∷ []) k.state k.fed head.planted)
+
+pub begun-requires : goal.begun-requires
+begun-requires c =
+    let r = c.requires in
+    let k = r.2 in
+    let g = some_certificate r.0 r.1 c.args.node.now k.before k.state k.runs k.step k.fed.runs k.ends in
+    subst IsPolygon (g.1.vertices_are ∙ sym (c.vertices.ensures ∙ ap (λ (s : CertReader). s.outline.ring.vertices) k.fed.reader_is)) g.1.certificate.polygon
+
+pub node-requires : goal.node-requires
+node-requires c =
+    let r = c.requires in
+    let k = r.2 in
+    let head = keeps r.0 r.1 c.args.node.now k.before k.state k.runs k.step k.fed.runs k.ends in
+    let g = some_certificate r.0 r.1 c.args.node.now k.before k.state k.runs k.step k.fed.runs k.ends in
+    let limits : c.in-Some.limits ≡ k.state.tree.limits = same_Some c.in-Some.limits k.state.tree.limits (c.in-Some.ensures ∙ limits_fed c.args.self.now.feed (r.0 ++ r.1 ∷ []) k.state k.fed head.planted) in
+    let vertices = g.1.vertices_are ∙ sym (c.vertices.ensures ∙ ap (λ (s : CertReader). s.outline.ring.vertices) k.fed.reader_is) in
+    let come = c.in_ok-walk.ensures k.before g.0 (subst (WalksWith k.before) (sym c.take.ensures.value) k.walks) (from_before r.0 r.1 c.args.node.now k.before k.state k.runs k.step k.fed.runs k.ends g.0 g.1) vertices in
+    (g.0, length k.before.tree.events, comes r.0 r.1 c.args.node.now k.before k.state k.runs k.step k.fed.runs k.ends g.0 g.1 c.in-Some.limits c.in_ok-walk.walk limits come)
+
+pub returns : goal.returns
+returns c = λ lines line k.
+    let head = keeps lines line c.args.node.now k.before k.state k.runs k.step k.fed.runs k.ends in
+    let limits : c.in-Some.limits ≡ k.state.tree.limits = same_Some c.in-Some.limits k.state.tree.limits (c.in-Some.ensures ∙ limits_fed c.args.self.now.feed (lines ++ line ∷ []) k.state k.fed head.planted) in
+    record {
+      state = k.state;
+      fed = k.fed;
+      walks = (head.planted, λ d g.
+          let vertices = g.vertices_are ∙ sym (c.vertices.ensures ∙ ap (λ (s : CertReader). s.outline.ring.vertices) k.fed.reader_is) in
+          let come = c.in_ok-walk.ensures k.before d (subst (WalksWith k.before) (sym c.take.ensures.value) k.walks) (from_before lines line c.args.node.now k.before k.state k.runs k.step k.fed.runs k.ends d g) vertices in
+          subst (λ (n : ℕ). HasCome d n c.node.new.self) (sym (one_event_more lines line c.args.node.now k.before k.state k.runs k.step k.fed.runs k.ends))
+          (c.in_ok-node.ensures d (length k.before.tree.events) (comes lines line c.args.node.now k.before k.state k.runs k.step k.fed.runs k.ends d g c.in-Some.limits c.in_ok-walk.walk limits come)));
+    }
