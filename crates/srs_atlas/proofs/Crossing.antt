@@ -1,8 +1,12 @@
 -- Books may cross threads.
 use Rattle.std.proofs.Crossing.{crosses}
+use Rattle.std.proofs.MapsCrossing.{crosses as maps}
 use denote.Param.Send.{IsSend, IsSync, sendable}
 use Rattle.srs_path.specs.contracts.events.Event as event
-use Rattle.srs_tree.proofs.Crossing.{path_send, path_sync, outcome_send, outcome_sync, growing_send, growing_sync}
+use Rattle.srs_tree.proofs.Crossing.{cell_send, cell_sync, path_send, path_sync, outcome_send, outcome_sync, growing_send, growing_sync}
+use Rattle.srs_front.proofs.Crossing.{front_send, front_sync}
+use Rattle.srs_tree.specs.contracts.waiting.Pending as waiting
+use Rattle.srs_atlas.specs.contracts.frontier.Frontier as frontier
 use Rattle.srs_atlas.specs.contracts.book.Book as book
 use Rattle.srs_atlas.specs.contracts.atlas.Atlas as atlas
 use Rattle.srs_atlas.specs.contracts.book.BookTold.TheImpl as told
@@ -18,11 +22,23 @@ event_send = search (sendable, crosses, path_send, path_sync, outcome_send, outc
 pub event_sync : IsSync event.the_row
 event_sync = search (sendable, crosses, path_send, path_sync, outcome_send, outcome_sync) depth 20
 
+pub waiting_send : IsSend waiting.the_row
+waiting_send = search (sendable, crosses, path_send, cell_send, cell_sync) depth 20
+
+pub waiting_sync : IsSync waiting.the_row
+waiting_sync = search (sendable, crosses, path_sync, cell_send, cell_sync) depth 20
+
+pub frontier_send : IsSend frontier.the_row
+frontier_send = search (sendable, crosses, maps, waiting_send, waiting_sync, front_send) depth 30
+
+pub frontier_sync : IsSync frontier.the_row
+frontier_sync = search (sendable, crosses, maps, waiting_send, waiting_sync, front_sync) depth 30
+
 pub book_send : IsSend book.the_row
-book_send = search (sendable, crosses, event_send, event_sync, growing_send, growing_sync) depth 20
+book_send = search (sendable, crosses, event_send, event_sync, growing_send, growing_sync, frontier_send) depth 20
 
 pub book_sync : IsSync book.the_row
-book_sync = search (sendable, crosses, event_send, event_sync, growing_send, growing_sync) depth 20
+book_sync = search (sendable, crosses, event_send, event_sync, growing_send, growing_sync, frontier_sync) depth 20
 
 -- the parts of a table of a book
 pub ruleset tables = (shared.the_send, shared.the_sync, lease.the_send, lease.the_sync)

@@ -68,5 +68,5 @@ module _ (Root : Area) (W : ℕ) (H : History) (legal : IsLegal Root W H) (path 
       by : (u : Outcome) → LacksPath path (map (cell_at R T) (parts_by path u))
       by (Inside ranks) = tt
       by (Outside cycle) = tt
-      by (Cut h) = (longer path Ge, longer path Lt, tt)
+      by (Cut h) = (longer path Ge, (longer path Lt, tt))
       by (Left cause) = tt

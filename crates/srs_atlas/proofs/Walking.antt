@@ -1,11 +1,12 @@
 -- The frontier is walked from front to back.
 use Rattle.std.proofs.Common.{◌≡◌, ◌≢◌, ℕ, ◌<◌, ◌+◌, Bool, true, false, cond, eqb, List, [], ◌∷◌, ◌++◌, length, map, refl, sym, ap, subst, ◌∙◌, arith, length-append}
+use Rattle.std.specs.Prelude.{IsSome}
 use Rattle.std.specs.List.{AllByRecursion}
 use Rattle.std.specs.declared.option.Option.{Option}
 use Rattle.std.specs.declared.option.Option.TheVariants.{Some, None}
 use Rattle.std.proofs.lemmas.List.{append-nil, append_assoc, map-append, length-map}
 use Rattle.std.proofs.lemmas.Bool.{eq-eqb, ne_eqb}
-use Rattle.srs_front.specs.Walks.{item_at, first_slot, slot_behind, slots_of, DoSlotsDiffer}
+use Rattle.srs_front.specs.Walks.{item_at, HasSlot, first_slot, slot_behind, slots_of, DoSlotsDiffer}
 use Rattle.srs_front.proofs.WalkLemmas.{slot_behind-middle}
 use Rattle.srs_tree.specs.Queue.{WaitingCell}
 use Rattle.srs_atlas.specs.Frontiers.{cells_of}
@@ -28,6 +29,20 @@ walk_end list cells w = by w.after w.is w.next
     by : (after : Cells) → list ≡ w.before ++ after → None ≡ first_slot after → cells ≡ cells_of list
     by [] is e = w.walked ∙ ap cells_of (sym (is ∙ append-nil w.before))
     by (p ∷ after) is e = absurd (cc e)
+
+has_middle : (before : Cells) (p : ℕ × WaitingCell) (after : Cells) → HasSlot (before ++ p ∷ after) p.0
+has_middle [] p after = subst (λ (b : Bool). IsSome (cond b (Some p.1) (item_at after p.0))) (sym (eq-eqb p.0 p.0 refl)) refl
+has_middle (q ∷ before) p after =
+    elim (eqb q.0 p.0) as (λ b. IsSome (cond b (Some q.1) (item_at (before ++ p ∷ after) p.0))) [ true ↦ refl | false ↦ has_middle before p after ]
+
+pub walk_has : (list : Cells) (cells : List WaitingCell) (slot : ℕ) → IsWalk list cells (Some slot) → HasSlot list slot
+walk_has list cells slot w = by w.after w.is w.next
+  where
+    by : (after : Cells) → list ≡ w.before ++ after → Some slot ≡ first_slot after → HasSlot list slot
+    by [] is e = absurd (cc e)
+    by (p ∷ after) is e =
+        let same : p.0 ≡ slot = cc in
+        subst (λ (xs : Cells). HasSlot xs slot) (sym is) (subst (HasSlot (w.before ++ p ∷ after)) same (has_middle w.before p after))
 
 pub walk_smaller : (list : Cells) (cells : List WaitingCell) (slot : ℕ) → IsWalk list cells (Some slot) → length cells < length list
 walk_smaller list cells slot w = by w.after w.is w.next

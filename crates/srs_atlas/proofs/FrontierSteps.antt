@@ -1,0 +1,89 @@
+-- What a push and a removal do to the cells and the map of a frontier.
+use Rattle.std.proofs.Common.{◌≡◌, ◌≢◌, ℕ, ◌<◌, Bool, true, false, cond, eqb, ltb, List, [], ◌∷◌, ◌++◌, map, refl, sym, ap, subst, ◌∙◌, arith}
+use Rattle.std.specs.Ordering.{nat_cmp, is_eq}
+use Rattle.std.specs.declared.cmp.Ordering.{Ordering}
+use Rattle.std.specs.declared.cmp.Ordering.TheVariants.{Less, Equal, Greater}
+use Rattle.std.specs.BTreeMap.{BTreeMap, get, UpdatesBy, is_at}
+use Rattle.std.specs.Map.{lookup}
+use Rattle.std.specs.declared.option.Option.{Option}
+use Rattle.std.specs.declared.option.Option.TheVariants.{Some, None}
+use Rattle.std.specs.Prelude.{OnOk, OnErr, IfNone, is_err, Ok, Err}
+use Rattle.std.specs.declared.result.Result.{Result}
+use Rattle.std.proofs.lemmas.List.{map-append}
+use Rattle.std.proofs.lemmas.Bool.{ne_eqb, ltb-true}
+use Rattle.srs_path.specs.declared.paths.Side.{Side}
+use Rattle.srs_front.specs.Walks.{item_at, without_slot, DoSlotsDiffer}
+use Rattle.srs_tree.specs.Queue.{WaitingCell, without}
+use Rattle.srs_atlas.specs.Frontiers.{cells_of, number_at, slot_with, LacksPath, DoPathsDiffer, AreSlotsOf}
+use Rattle.srs_atlas.proofs.FrontierLemmas.{Cells, slot_with-push, slot_with-without, are_matched, cells-without, none_found, without_pushed, differ_push, differ_without}
+
+-- the test of a number
+is_eq-nat_cmp : (a b : ℕ) → is_eq (nat_cmp a b) ≡ eqb a b
+is_eq-nat_cmp a b = by (ltb a b) refl
+  where
+    equal : (e : Bool) → is_eq (cond e Equal Greater) ≡ e
+    equal true = refl
+    equal false = refl
+
+    by : (l : Bool) → ltb a b ≡ l → is_eq (cond l Less (cond (eqb a b) Equal Greater)) ≡ eqb a b
+    by true e = let lt : a < b = ltb-true a b e in sym (ne_eqb a b (λ q. absurd (omega (arith, lt, q))))
+    by false e = equal (eqb a b)
+
+-- the same map
+same_get : (slots later : BTreeMap ℕ ℕ) → later.entries ≡ slots.entries → (k : ℕ) → get nat_cmp later k ≡ get nat_cmp slots k
+same_get slots later same k = ap (lookup (is_at (nat_cmp k))) same
+
+-- a map after a change at the number
+changed_get : (slots later : BTreeMap ℕ ℕ) (number : ℕ) (w : Option ℕ) → UpdatesBy nat_cmp (nat_cmp number) slots later w → (k : ℕ) → get nat_cmp later k ≡ cond (eqb number k) w (get nat_cmp slots k)
+changed_get slots later number w updates k = updates.0 k ∙ ap (λ (b : Bool). cond b w (get nat_cmp slots k)) (is_eq-nat_cmp number k)
+
+module _ (slots later : BTreeMap ℕ ℕ) (list : Cells) (are : AreSlotsOf slots list) where
+  pub pushed : (more : Cells) (slot number : ℕ) (cell : WaitingCell) → LacksPath cell.path (cells_of list) → number ≡ number_at cell.path → more ≡ list ++ (slot, cell) ∷ []
+      → UpdatesBy nat_cmp (nat_cmp number) slots later (Some slot) → AreSlotsOf later more × (cells_of more ≡ cells_of list ++ cell ∷ [])
+  pushed more slot number cell lacks is made updates =
+      let seen : cells_of more ≡ cells_of list ++ cell ∷ [] = ap cells_of made ∙ map-append (λ (p : ℕ × WaitingCell). p.1) list ((slot, cell) ∷ []) in
+      (record {
+        exactly = λ k. changed_get slots later number (Some slot) updates k ∙ ap (cond (eqb number k) (Some slot)) (are.exactly k)
+            ∙ ap (λ (n : ℕ). cond (eqb n k) (Some slot) (slot_with list k)) is ∙ sym (slot_with-push list slot cell k lacks) ∙ ap (λ (xs : Cells). slot_with xs k) (sym made);
+        once = subst DoPathsDiffer (sym seen) (differ_push (cells_of list) cell are.once lacks);
+      }, seen)
+
+  pub undone : (more back : Cells) (slot : ℕ) (cell : WaitingCell) → item_at list slot ≡ None → more ≡ list ++ (slot, cell) ∷ [] → back ≡ without_slot slot more → later.entries ≡ slots.entries
+      → AreSlotsOf later back × (cells_of back ≡ cells_of list)
+  undone more back slot cell free made out same =
+      let is : back ≡ list = out ∙ ap (without_slot slot) made ∙ without_pushed list slot cell free in
+      (record {
+        exactly = λ k. same_get slots later same k ∙ are.exactly k ∙ ap (λ (xs : Cells). slot_with xs k) (sym is);
+        once = subst (λ (xs : Cells). DoPathsDiffer (cells_of xs)) (sym is) are.once;
+      }, ap cells_of is)
+
+  pub gone : (less : Cells) (slot number : ℕ) (path : List Side) → DoSlotsDiffer list → number ≡ number_at path → get nat_cmp slots number ≡ Some slot
+      → UpdatesBy nat_cmp (nat_cmp number) slots later None → less ≡ without_slot slot list → AreSlotsOf later less × (cells_of less ≡ without path (cells_of list))
+  gone less slot number path differ is found updates out =
+      let there : slot_with list (number_at path) ≡ Some slot = ap (slot_with list) (sym is) ∙ sym (are.exactly number) ∙ found in
+      let matched = are_matched list path slot there differ are.once in
+      let seen : cells_of less ≡ without path (cells_of list) = ap cells_of out ∙ cells-without list path slot matched in
+      (record {
+        exactly = λ k. changed_get slots later number None updates k ∙ ap (cond (eqb number k) None) (are.exactly k)
+            ∙ ap (λ (n : ℕ). cond (eqb n k) None (slot_with list k)) is ∙ sym (slot_with-without list path slot k matched) ∙ ap (λ (xs : Cells). slot_with xs k) (sym out);
+        once = subst DoPathsDiffer (sym seen) (differ_without path (cells_of list) are.once);
+      }, seen)
+
+  pub nothing : (number : ℕ) (path : List Side) → number ≡ number_at path → get nat_cmp slots number ≡ None → later.entries ≡ slots.entries
+      → AreSlotsOf later list × (cells_of list ≡ without path (cells_of list))
+  nothing number path is none same =
+      (record { exactly = λ k. same_get slots later same k ∙ are.exactly k; once = are.once },
+      sym (none_found list path (ap (slot_with list) (sym is) ∙ sym (are.exactly number) ∙ none)))
+
+-- what holds on one outcome
+pub on_err : {A E : Type 0} (r : Result A E) (P : Type 0) → OnErr r P → is_err r ≡ true → P
+on_err (Ok a) P h e = absurd (let f : false ≡ true = e in cc)
+on_err (Err x) P h e = h
+
+pub on_ok : {A E : Type 0} (r : Result A E) (P : Type 0) → OnOk r P → is_err r ≡ false → P
+on_ok (Ok a) P h e = h
+on_ok (Err x) P h e = absurd (let f : true ≡ false = e in cc)
+
+pub on_none : {A : Type 0} (o : Option A) (P : Type 0) → IfNone o P → o ≡ None → P
+on_none None P h e = h
+on_none (Some a) P h e = absurd (cc e)
