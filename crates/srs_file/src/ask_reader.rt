@@ -6,7 +6,8 @@ ghost use Rattle.srs_line.specs.Refusal.{IsSlip};
 ghost use Rattle.srs_cert.specs.Certificates.{CertView};
 ghost use Rattle.srs_file.specs.Grammar.{SpellsAsk};
 ghost use Rattle.srs_file.specs.QuestionReading.{SlipsQuestion};
-ghost use Rattle.srs_file.specs.AskReading.{ask_start, EndsHere, StepsAsking, ReadsAsAsk, FirstAskSlip, IsAskOrSlips, IsAskRefusal, IsNoAsk};
+ghost use Rattle.srs_file.specs.AskReading.{ask_start, EndsHere, StepsAsking, ReadsAsAsk};
+ghost use Rattle.srs_file.specs.AskReading.{FirstAskSlip, IsAskOrSlips, IsAskRefusal, IsNoAsk};
 
 use crate::{CertReader, Questions};
 use srs_cert::Cert;
@@ -16,8 +17,8 @@ use srs_line::{
 use srs_tree::Queries;
 use std::alloc::Global;
 
-/// A reader of a certificate and the questions behind it, which takes them line by line. It has ended with the line behind
-/// the last question.
+/// A reader of a certificate and the questions behind it, which takes them line by line. It has
+/// ended with the line behind the last question.
 #[derive(Drop)]
 pub struct AskReader {
     pub cert: CertReader,
@@ -74,8 +75,8 @@ impl LineMachine for AskReader {
     }
 }
 
-/// The certificate that the text spells and the questions behind it, or the first slip of the text, its lines counted from
-/// 1. The text is shorter than 2^32 - 1 bytes.
+/// The certificate that the text spells and the questions behind it, or the first slip of the text,
+/// its lines counted from 1. The text is shorter than 2^32 - 1 bytes.
 pub fn read_ask(alloc: Global, text: &[u8]) -> Result<(Cert, Queries), FileErr>
     requires { length text.now + 1 < 2 ^ 32 }
     ensures accepted { IfOk result (λ r. SpellsAsk text.now r.0 r.1) }
@@ -87,8 +88,9 @@ pub fn read_ask(alloc: Global, text: &[u8]) -> Result<(Cert, Queries), FileErr>
     Ok((reader.cert.into_cert(alloc)?, reader.questions.queries))
 }
 
-/// A text is a certificate with questions or has a first slip, one of the two and never both; it has one first slip, and spells one certificate
-/// and one list of questions; and it is read as these exactly where it spells them.
+/// A text is a certificate with questions or has a first slip, one of the two and never both; it
+/// has one first slip, and spells one certificate and one list of questions; and it is read as
+/// these exactly where it spells them.
 pub fn one_ask_input()
     ensures never_both { (text : List ℕ) (c : CertView) (queries : List Query) (line : ℕ)
         (slip : Slip) → SpellsAsk text c queries → FirstAskSlip text line slip → ⊥ }

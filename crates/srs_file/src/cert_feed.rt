@@ -16,8 +16,8 @@ use srs_plane::Vertex;
 use std::alloc::Global;
 use std::marker::Model;
 
-/// A node whose last line was fed: the line on which it begins, the first line being 1, the length of its path, and its
-/// outcome.
+/// A node whose last line was fed: the line on which it begins, the first line being 1, the length
+/// of its path, and its outcome.
 #[derive(Drop)]
 pub struct NodeAt {
     pub line: u32,
@@ -55,8 +55,8 @@ impl CertFeed {
         })
     }
 
-    /// Takes the next line, without its LF: the node that ends with it, if one does. After an `Err` the feed answers the
-    /// same error from then on, and shows what was fed before.
+    /// Takes the next line, without its LF: the node that ends with it, if one does. After an `Err`
+    /// the feed answers the same error from then on, and shows what was fed before.
     pub fn line(&mut self, line: &[u8]) -> Result<Option<NodeAt>, FileErr>
         requires { HasNoLf line.now }
         ensures good { IfOk result (λ node. (lines : List (List ℕ)) (s : CertReader) →
@@ -141,8 +141,8 @@ impl CertFeed {
     }
 }
 
-// The number of the line after so many. A certificate within its limits has far fewer lines than a u32 counts, so this is
-// never an `Err`.
+// The number of the line after so many. A certificate within its limits has far fewer lines than a
+// u32 counts, so this is never an `Err`.
 fn next_line(count: u32) -> Result<u32, FileErr>
     ensures ok { IfOk result (λ at. at ≡ count + 1) }
     ensures err { IfErr result (λ error. error ≡ FileErr.NoMemory) }

@@ -1,11 +1,17 @@
 // Reads the text of a certificate.
-ghost use Rattle.std.specs.Prelude.{List, ℕ, ℤ, ◌≡◌, ◌≢◌, ◌↔◌, ◌+◌, ◌^◌, ◌<◌, [], ◌∷◌, pos, IsTrue, OnOk, OnErr, IfOk, IfErr, IfSome, IfNone, length};
+ghost use Rattle.std.specs.Prelude.{List, ℕ, ℤ, ◌≡◌, ◌≢◌, ◌↔◌, ◌+◌, ◌^◌, ◌<◌, [], ◌∷◌, pos, IsTrue};
+ghost use Rattle.std.specs.Prelude.{OnOk, OnErr, IfOk, IfErr, IfSome, IfNone, length};
 ghost use Rattle.srs_path.specs.Views.{Budget, IsBudget};
 ghost use Rattle.srs_line.specs.declared.slip.Slip.{Slip};
 ghost use Rattle.srs_line.specs.Refusal.{IsSlip};
 ghost use Rattle.srs_file.specs.Grammar.{SpellsCertificate};
 ghost use Rattle.srs_cert.specs.Certificates.{CertView, IsCertificate, cert_text};
-ghost use Rattle.srs_file.specs.CertReading.{cert_start, CertSteps, CertSlips, CertEnds, gathers, KeepsHead, limits_in, read_view, StepsFirst, SlipsFirst, StepsInPolygon, SlipsInPolygon, SaysLimits, AreNoLimits, IsLimitsSlip, StepsLimits, StepsNodes, SlipsNodes, ReadsAsCert, FirstCertSlip, IsCertOrSlips, IsCertRefusal, IsNoCert};
+ghost use Rattle.srs_file.specs.CertReading.{cert_start, CertSteps, CertSlips, CertEnds, gathers};
+ghost use Rattle.srs_file.specs.CertReading.{KeepsHead, limits_in, read_view, StepsFirst};
+ghost use Rattle.srs_file.specs.CertReading.{SlipsFirst, StepsInPolygon, SlipsInPolygon};
+ghost use Rattle.srs_file.specs.CertReading.{SaysLimits, AreNoLimits, IsLimitsSlip, StepsLimits};
+ghost use Rattle.srs_file.specs.CertReading.{StepsNodes, SlipsNodes, ReadsAsCert, FirstCertSlip};
+ghost use Rattle.srs_file.specs.CertReading.{IsCertOrSlips, IsCertRefusal, IsNoCert};
 
 use crate::polygon_reader::end;
 use crate::{Node, Outline, Tree};
@@ -18,8 +24,8 @@ use srs_num::NoMemory;
 use srs_path::Limits;
 use std::alloc::Global;
 
-/// What a reader of a certificate waits for: the version, a line of the polygon or the limits, a line of the tree or the
-/// last line, or nothing.
+/// What a reader of a certificate waits for: the version, a line of the polygon or the limits, a
+/// line of the tree or the last line, or nothing.
 #[derive(Clone, Copy, Debug, PartialEq, Eq)]
 pub enum CertPhase {
     First,
@@ -68,8 +74,8 @@ impl CertReader {
         }
     }
 
-    /// Takes the next line: the node that ends with it, if one does, whose event isn't gathered yet. A refused line leaves what is
-    /// waited for, the polygon and the limits.
+    /// Takes the next line: the node that ends with it, if one does, whose event isn't gathered
+    /// yet. A refused line leaves what is waited for, the polygon and the limits.
     pub fn advance(&mut self, line: &[u8]) -> Result<Option<Node>, LineErr>
         requires { ¬ (CertEnds self.old) }
         ensures ok { IfOk result (λ node. CertSteps self.old line.now (gathers self.new node)) }
@@ -180,8 +186,8 @@ fn limits_of(depth: i64, cells: i64, wits: i64) -> Option<Limits>
     Limits::new(depth, cells, wits)
 }
 
-/// The certificate that the text spells, or the first slip of the text, its lines counted from 1. The text is shorter than
-/// 2^32 - 1 bytes.
+/// The certificate that the text spells, or the first slip of the text, its lines counted from 1.
+/// The text is shorter than 2^32 - 1 bytes.
 pub fn read_cert(alloc: Global, text: &[u8]) -> Result<Cert, FileErr>
     requires { length text.now + 1 < 2 ^ 32 }
     ensures accepted { IfOk result (λ c. SpellsCertificate text.now c) }
@@ -193,8 +199,9 @@ pub fn read_cert(alloc: Global, text: &[u8]) -> Result<Cert, FileErr>
     Ok(reader.into_cert(alloc)?)
 }
 
-/// A text is that of a certificate or has a first slip, one of the two and never both; it has one first slip, and spells one certificate; and
-/// it is read as this certificate exactly where it spells it. So the one text of a certificate is read as that certificate.
+/// A text is that of a certificate or has a first slip, one of the two and never both; it has one
+/// first slip, and spells one certificate; and it is read as this certificate exactly where it
+/// spells it. So the one text of a certificate is read as that certificate.
 pub fn one_certificate()
     ensures never_both { (text : List ℕ) (c : CertView) (line : ℕ) (slip : Slip) →
         SpellsCertificate text c → FirstCertSlip text line slip → ⊥ }

@@ -1,5 +1,6 @@
 // An inside leaf, read line by line.
-ghost use Rattle.std.specs.Prelude.{◌≡◌, ◌↔◌, ◌+◌, ◌-◌, ◌<◌, ◌≤◌, ◌++◌, [], ◌∷◌, ℕ, ℤ, pos, length, IsTrue, IfOk, IfErr, OnOk, codes};
+ghost use Rattle.std.specs.Prelude.{◌≡◌, ◌↔◌, ◌+◌, ◌-◌, ◌<◌, ◌≤◌, ◌++◌, [], ◌∷◌, ℕ, ℤ, pos, length};
+ghost use Rattle.std.specs.Prelude.{IsTrue, IfOk, IfErr, OnOk, codes};
 ghost use Rattle.srs_path.specs.declared.limits.TheConstants.{MOST_WITNESSES};
 ghost use Rattle.srs_path.specs.Core.{Precedes};
 ghost use Rattle.srs_line.specs.Fields.{Says, IsFieldSlip};

@@ -8,7 +8,8 @@ ghost use Rattle.srs_line.specs.Refusal.{IsSlip};
 ghost use Rattle.srs_cert.specs.Lives.{LiveTextIsOne};
 ghost use Rattle.srs_file.specs.Grammar.{SpellsLive};
 ghost use Rattle.srs_file.specs.SessionReading.{SlipsSession};
-ghost use Rattle.srs_file.specs.LiveReading.{live_start, SessionsEnd, StepsInSessions, FirstLiveSlip, IsLiveOrSlips, IsLiveRefusal, IsNoLive};
+ghost use Rattle.srs_file.specs.LiveReading.{live_start, SessionsEnd, StepsInSessions};
+ghost use Rattle.srs_file.specs.LiveReading.{FirstLiveSlip, IsLiveOrSlips, IsLiveRefusal, IsNoLive};
 
 use crate::polygon_reader::inhabited;
 use crate::{Outline, SessionLines, one_certificate};

@@ -6,7 +6,8 @@ ghost use Rattle.srs_plane.specs.Polygons.{region_of};
 ghost use Rattle.srs_line.specs.declared.slip.Slip.{Slip};
 ghost use Rattle.srs_line.specs.declared.slip.Slip.TheVariants.{Word};
 ghost use Rattle.srs_file.specs.Grammar.{SpellsPolygon};
-ghost use Rattle.srs_file.specs.PolygonReading.{start, ReadsAs, FirstSlip, IsPolygonOrSlips, IsRefusal, IsNotSpelled};
+ghost use Rattle.srs_file.specs.PolygonReading.{start, ReadsAs, FirstSlip, IsPolygonOrSlips};
+ghost use Rattle.srs_file.specs.PolygonReading.{IsRefusal, IsNotSpelled};
 
 use crate::Outline;
 use srs_cell::Cell;
@@ -17,7 +18,8 @@ use srs_num::NoMemory;
 use srs_plane::{Region, Vertices};
 use std::alloc::Global;
 
-/// A reader of the text of a polygon, which takes it line by line. It has ended with the line behind the last vertex.
+/// A reader of the text of a polygon, which takes it line by line. It has ended with the line
+/// behind the last vertex.
 #[derive(Drop)]
 pub struct PolygonReader {
     pub outline: Outline,
@@ -70,8 +72,8 @@ pub(crate) fn end(line: &[u8]) -> Result<(), Slip>
     Ok(())
 }
 
-/// The vertices of the polygon that the text spells, and the cell of its region; or the first slip of the text, its lines
-/// counted from 1. The text is shorter than 2^32 - 1 bytes.
+/// The vertices of the polygon that the text spells, and the cell of its region; or the first slip
+/// of the text, its lines counted from 1. The text is shorter than 2^32 - 1 bytes.
 pub fn read_polygon(alloc: Global, text: &[u8]) -> Result<(Vertices, Cell), FileErr>
     requires { length text.now + 1 < 2 ^ 32 }
     ensures accepted { IfOk result (λ r. SpellsPolygon text.now r.0 × (r.1 ≡ region_of r.0)) }
@@ -97,8 +99,9 @@ pub(crate) fn inhabited(alloc: Global, region: Region) -> Result<Cell, NoMemory>
     }
 }
 
-/// A text is that of a polygon or has a first slip, one of the two and never both; it has one first slip, and spells one list of vertices;
-/// and it is read as these vertices exactly where it spells them.
+/// A text is that of a polygon or has a first slip, one of the two and never both; it has one first
+/// slip, and spells one list of vertices; and it is read as these vertices exactly where it spells
+/// them.
 pub fn one_polygon()
     ensures never_both { (text : List ℕ) (vs : List Vertex) (line : ℕ) (slip : Slip) →
         SpellsPolygon text vs → FirstSlip text line slip → ⊥ }

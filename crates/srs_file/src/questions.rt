@@ -1,5 +1,6 @@
 // Questions, read line by line.
-ghost use Rattle.std.specs.Prelude.{◌≡◌, ◌≢◌, ◌↔◌, ◌<◌, ◌++◌, [], ◌∷◌, ℕ, pos, IsTrue, IfOk, IfErr, IfSome, IfNone, OnOk, codes};
+ghost use Rattle.std.specs.Prelude.{◌≡◌, ◌≢◌, ◌↔◌, ◌<◌, ◌++◌, [], ◌∷◌, ℕ, pos, IsTrue, IfOk, IfErr};
+ghost use Rattle.std.specs.Prelude.{IfSome, IfNone, OnOk, codes};
 ghost use Rattle.srs_num.specs.declared.pairs.V2.{V2};
 ghost use Rattle.srs_num.specs.Points.{Point};
 ghost use Rattle.srs_plane.specs.Polygons.{region_of};
@@ -9,7 +10,11 @@ ghost use Rattle.srs_line.specs.Refusal.{IsSlip};
 ghost use Rattle.srs_file.specs.Ring.{IsFull, no_ring, IsOpenSlip, SlipsVertex};
 ghost use Rattle.srs_file.specs.Questions.{orbit_numbers};
 ghost use Rattle.srs_tree.specs.Questions.{IsOrbitAsked, IsAskable};
-ghost use Rattle.srs_file.specs.QuestionReading.{no_questions, AddsQuery, SaysPlace, IsPlaceSlip, SaysOrbit, IsOrbitSlip, StepsPoint, StepsRegion, StepsOrbit, StepsVertex, TakesQuestion, SlipsQuestion, AsksByWord, TakesInSession, SlipsInSession};
+ghost use Rattle.srs_file.specs.QuestionReading.{no_questions, AddsQuery, SaysPlace, IsPlaceSlip};
+ghost use Rattle.srs_file.specs.QuestionReading.{SaysOrbit, IsOrbitSlip, StepsPoint, StepsRegion};
+ghost use Rattle.srs_file.specs.QuestionReading.{StepsOrbit, StepsVertex, TakesQuestion};
+ghost use Rattle.srs_file.specs.QuestionReading.{SlipsQuestion, AsksByWord, TakesInSession};
+ghost use Rattle.srs_file.specs.QuestionReading.{SlipsInSession};
 
 use crate::Ring;
 use crate::polygon_reader::inhabited;
@@ -44,7 +49,8 @@ impl Questions {
         self.ring.wants_more()
     }
 
-    /// Takes the next line: of a vertex where one is to come, and else of a question. An `Err` may leave any questions.
+    /// Takes the next line: of a vertex where one is to come, and else of a question. An `Err` may
+    /// leave any questions.
     pub fn take(&mut self, line: &[u8]) -> Result<(), LineErr>
         ensures ok { OnOk result (TakesQuestion self.old line.now self.new) }
         ensures err { IfErr result (IsSlip (SlipsQuestion self.old line.now)) }

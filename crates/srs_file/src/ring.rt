@@ -1,10 +1,12 @@
 // A ring of vertices, read line by line.
-ghost use Rattle.std.specs.Prelude.{◌≡◌, ◌<◌, ◌++◌, ◌↔◌, [], ◌∷◌, IsTrue, IfOk, IfErr, OnOk, OnErr, IfSome, IfNone, Some, None};
+ghost use Rattle.std.specs.Prelude.{◌≡◌, ◌<◌, ◌++◌, ◌↔◌, [], ◌∷◌, IsTrue, IfOk, IfErr, OnOk, OnErr};
+ghost use Rattle.std.specs.Prelude.{IfSome, IfNone, Some, None};
 ghost use Rattle.std.specs.List.{All};
 ghost use Rattle.srs_plane.specs.Placed.{IsPlaced};
 ghost use Rattle.srs_plane.specs.Polygons.{IsCounted, IsPolygon, region_of};
 ghost use Rattle.srs_line.specs.Refusal.{IsSlip};
-ghost use Rattle.srs_file.specs.Ring.{no_ring, Opens, IsOpenSlip, Adds, SlipsAdd, TakesVertex, SlipsVertex, IsTurn};
+ghost use Rattle.srs_file.specs.Ring.{no_ring, Opens, IsOpenSlip, Adds, SlipsAdd, TakesVertex};
+ghost use Rattle.srs_file.specs.Ring.{SlipsVertex, IsTurn};
 
 use crate::vertex::vertex;
 use srs_line::{LineErr, Slip, count_of};
@@ -13,8 +15,8 @@ use std::alloc::Global;
 use std::marker::Model;
 use std::mem;
 
-/// A ring of vertices while its lines are read: how many are still to come, those that came, and the region once all
-/// of them are there.
+/// A ring of vertices while its lines are read: how many are still to come, those that came, and
+/// the region once all of them are there.
 #[derive(Drop)]
 pub struct Ring {
     alloc: Global,
@@ -65,7 +67,8 @@ impl Ring {
         self.vertices.as_slice()
     }
 
-    /// Begins anew with the line that says by this word how many vertices come. An `Err` changes nothing. It takes no memory.
+    /// Begins anew with the line that says by this word how many vertices come. An `Err` changes
+    /// nothing. It takes no memory.
     pub fn open(&mut self, word: &[u8], line: &[u8]) -> Result<(), Slip>
         ensures ok { OnOk result (Opens word.now line.now self.new) }
         ensures err { IfErr result (IsOpenSlip word.now line.now) }
@@ -81,7 +84,8 @@ impl Ring {
         Ok(())
     }
 
-    /// Takes the line of the next vertex; with that of the last one it makes the region. An `Err` changes nothing.
+    /// Takes the line of the next vertex; with that of the last one it makes the region. An `Err`
+    /// changes nothing.
     pub fn take(&mut self, line: &[u8]) -> Result<(), LineErr>
         requires { 0 < self.old.left }
         ensures ok { OnOk result (TakesVertex self.old line.now self.new) }
@@ -127,7 +131,8 @@ impl Ring {
         Ok(())
     }
 
-    /// The region once all the vertices are there; the ring begins anew, with none to come. It takes no memory.
+    /// The region once all the vertices are there; the ring begins anew, with none to come. It
+    /// takes no memory.
     pub fn close(&mut self) -> Option<Region>
         ensures region { result ≡ self.old.region }
         ensures empty { self.new ≡ no_ring }

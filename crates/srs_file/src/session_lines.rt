@@ -3,7 +3,10 @@ ghost use Rattle.std.specs.Prelude.{◌≡◌, ◌↔◌, ◌<◌, [], IsTrue, I
 ghost use Rattle.srs_line.specs.Fields.{HasWord};
 ghost use Rattle.srs_line.specs.Refusal.{IsSlip};
 ghost use Rattle.srs_file.specs.QuestionReading.{no_questions};
-ghost use Rattle.srs_file.specs.SessionReading.{no_sessions, IsBegun, IsLater, SaysRound, IsRoundSlip, segments_of, closed, StepsSession, SlipsNinth, StepsAt, StepsBehind, TakesSession, SlipsBehind, SlipsSession};
+ghost use Rattle.srs_file.specs.SessionReading.{no_sessions, IsBegun, IsLater, SaysRound};
+ghost use Rattle.srs_file.specs.SessionReading.{IsRoundSlip, segments_of, closed, StepsSession};
+ghost use Rattle.srs_file.specs.SessionReading.{SlipsNinth, StepsAt, StepsBehind, TakesSession};
+ghost use Rattle.srs_file.specs.SessionReading.{SlipsBehind, SlipsSession};
 
 use crate::Questions;
 use srs_line::{LineErr, Slip, count_of, has_word};

@@ -1,10 +1,16 @@
 // The tree of a certificate, read line by line.
-ghost use Rattle.std.specs.Prelude.{◌≡◌, ◌≢◌, ◌↔◌, ◌+◌, ◌<◌, ◌≤◌, ◌++◌, [], ◌∷◌, pos, ℤ, length, Some, IsTrue, IfOk, IfErr, IfSome, IfNone, OnOk, OnErr, codes};
+ghost use Rattle.std.specs.Prelude.{◌≡◌, ◌≢◌, ◌↔◌, ◌+◌, ◌<◌, ◌≤◌, ◌++◌, [], ◌∷◌, pos, ℤ, length};
+ghost use Rattle.std.specs.Prelude.{Some, IsTrue, IfOk, IfErr, IfSome, IfNone, OnOk, OnErr, codes};
 ghost use Rattle.srs_path.specs.declared.limits.TheConstants.{MOST_DEPTH};
 ghost use Rattle.srs_path.specs.declared.paths.Side.TheVariants.{Ge as AtGe, Lt as AtLt};
 ghost use Rattle.srs_path.specs.declared.outcomes.Cause.{Cause};
 ghost use Rattle.srs_line.specs.Refusal.{IsSlip};
-ghost use Rattle.srs_file.specs.TreeReading.{left_line, no_tree, only_root, gathered, KeepsRest, TakesOutcome, Divides, SlipsDivide, HasRoom, CutsBy, SlipsCutBy, StepsCut, SlipsCut, StepsIn, SlipsIn, Counts, StepsOut, SlipsOut, StepsLeft, SlipsLeft, StepsNode, SlipsNode, StepsEntry, TakesLine, SlipsLine};
+ghost use Rattle.srs_file.specs.TreeReading.{left_line, no_tree, only_root, gathered, KeepsRest};
+ghost use Rattle.srs_file.specs.TreeReading.{TakesOutcome, Divides, SlipsDivide, HasRoom, CutsBy};
+ghost use Rattle.srs_file.specs.TreeReading.{SlipsCutBy, StepsCut, SlipsCut, StepsIn, SlipsIn};
+ghost use Rattle.srs_file.specs.TreeReading.{Counts, StepsOut, SlipsOut, StepsLeft, SlipsLeft};
+ghost use Rattle.srs_file.specs.TreeReading.{StepsNode, SlipsNode, StepsEntry, TakesLine};
+ghost use Rattle.srs_file.specs.TreeReading.{SlipsLine};
 ghost use Rattle.srs_file.specs.Leaf.{SlipsEntry};
 
 use crate::{Events, Leaf, PathStack};
@@ -22,8 +28,8 @@ pub struct Node {
     pub outcome: Outcome,
 }
 
-/// A tree while its lines are read, in preorder: its limits, how many cells it has so far, the cells that wait for their
-/// event, the inside leaf at hand, and the events so far.
+/// A tree while its lines are read, in preorder: its limits, how many cells it has so far, the
+/// cells that wait for their event, the inside leaf at hand, and the events so far.
 #[derive(Drop)]
 pub struct Tree {
     pub limits: Limits,
@@ -92,8 +98,9 @@ impl Tree {
         }
     }
 
-    /// Takes the next line: of a witness where one is to come, and else of a node. It answers the node that ends with it, if one
-    /// does, whose event isn't gathered yet. An `Err` may leave any tree with these limits and events.
+    /// Takes the next line: of a witness where one is to come, and else of a node. It answers the
+    /// node that ends with it, if one does, whose event isn't gathered yet. An `Err` may leave any
+    /// tree with these limits and events.
     pub fn take(&mut self, line: &[u8]) -> Result<Option<Node>, LineErr>
         requires { self.old.pending ≢ [] }
         ensures ok { IfOk result (λ node. TakesLine self.old line.now (gathered self.new node)) }
