@@ -83,8 +83,14 @@ module _ {T : Type 0} (n : Numbers) (items : List (Option T)) (free : List ℕ) 
 
     count : length (fronts ++ backs) + length free + 1 ≡ length items
     count =
-        omega (arith, of.all, ap length (slots-middle before slot item after), length-append (slots_of (before ++ (slot, item) ∷ after)) free,
-        length-append fronts (slot ∷ backs), length-append fronts backs)
+        omega (
+          arith,
+          of.all,
+          ap length (slots-middle before slot item after),
+          length-append (slots_of (before ++ (slot, item) ∷ after)) free,
+          length-append fronts (slot ∷ backs),
+          length-append fronts backs,
+        )
 
     -- the list without the slot, which is free now
     pub unlinked : AreOf (spliced_out n slot) (set items slot None) (free ++ slot ∷ []) room (before ++ after)
@@ -204,9 +210,10 @@ module _ {T : Type 0} (n : Numbers) (items : List (Option T)) (small : length it
   row_grows a [] nexts prevs same row are = record { to = same ∙ row.to; back = row.back }
   row_grows a (x ∷ slots) nexts prevs same row are =
       let lt : x < length items = are.0 in
-      let d = below_none (length items) x lt small in
-      (record { to = same ∙ row.0.to; back = ahead_grows x (omega (arith, lt, prevs)) d ∙ row.0.back },
-      row_grows x slots nexts prevs (behind_grows x (omega (arith, lt, nexts)) d) row.1 are.2)
+      let d = below_none (length items) x lt small in (
+        record { to = same ∙ row.0.to; back = ahead_grows x (omega (arith, lt, prevs)) d ∙ row.0.back },
+        row_grows x slots nexts prevs (behind_grows x (omega (arith, lt, nexts)) d) row.1 are.2,
+      )
 
   stand_grows : (list : Pairs T) → AreSlots (length items) (slots_of list) → Stand items list → Stand (items ++ None ∷ []) list
   stand_grows [] are all = tt

@@ -177,9 +177,9 @@ row_to n k a (x ∷ slots) s q row la differ lq end_p end_q =
     let other = lacks_ahead n x slots s (a ∷ []) row.1 ((λ e. la.0 (sym e)), tt) (flip a slots la.1) in
     (still_joined n (ahead n s) q a x row.0 (λ e. other.0 (sym e)) (λ e. lq.0 (sym e)), row_to n k x slots s q row.1 differ.1 differ.2 lq.1 end_p end_q)
   where
-  flip : (a : ℕ) (slots : List ℕ) → Lacks a slots → AllByRecursion (λ x. Lacks x (a ∷ [])) slots
-  flip a [] l = tt
-  flip a (y ∷ slots) l = (((λ e. l.0 (sym e)), tt), flip a slots l.1)
+    flip : (a : ℕ) (slots : List ℕ) → Lacks a slots → AllByRecursion (λ x. Lacks x (a ∷ [])) slots
+    flip a [] l = tt
+    flip a (y ∷ slots) l = (((λ e. l.0 (sym e)), tt), flip a slots l.1)
 
 -- parts of lists of slots
 pub lacks_parts : (x : ℕ) (slots others : List ℕ) → Lacks x (slots ++ others) → Lacks x slots × Lacks x others
@@ -243,9 +243,9 @@ row_without n k slots s (y ∷ others) row are small end_a end_b =
     = row_stays n (ahead n s) (behind n s) y others NO_SLOT parts.1.1 (λ e. far.0 (sym e)) far.1 (subst (λ (x : ℕ). Lacks x others) (sym to_y) kinds.1.1) (λ e. none_behind.0 (e ∙ to_y)) in
     rows_together (spliced_out n s) NO_SLOT slots y others NO_SLOT (subst (AreInRow (spliced_out n s) NO_SLOT slots) to_y front) back
   where
-  lacks_from : (y : ℕ) (others slots : List ℕ) → AllByRecursion (λ x. Lacks x (y ∷ others)) slots → Lacks y slots
-  lacks_from y others [] apart = tt
-  lacks_from y others (x ∷ slots) apart = ((λ e. apart.0.0 (sym e)), lacks_from y others slots apart.1)
+    lacks_from : (y : ℕ) (others slots : List ℕ) → AllByRecursion (λ x. Lacks x (y ∷ others)) slots → Lacks y slots
+    lacks_from y others [] apart = tt
+    lacks_from y others (x ∷ slots) apart = ((λ e. apart.0.0 (sym e)), lacks_from y others slots apart.1)
 
 -- a row with one more slot at its end
 pub row_push : (n : Numbers) (k : ℕ) (slots : List ℕ) (s : ℕ) → AreInRow n NO_SLOT slots NO_SLOT → AreSlots k slots → k < 2 ^ 63 → s < k → Lacks s slots

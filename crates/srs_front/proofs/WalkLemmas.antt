@@ -102,23 +102,23 @@ module _ {T : Type 0} where
   stands [] slot has = absurd (let e : false ≡ true = has in cc)
   stands (p ∷ list) slot has = by (eqb p.0 slot) refl (stands list slot)
     where
-    by : (b : Bool) → eqb p.0 slot ≡ b → (HasSlot list slot → Stands list slot) → Stands (p ∷ list) slot
-    by true e later = record {
-      before = [];
-      item = p.1;
-      after = list;
-      is = ap (λ (x : ℕ). (x, p.1) ∷ list) (eqb-true p.0 slot e);
-      found = ap (λ (b : Bool). cond b (Some p.1) (item_at list slot)) e;
-    }
-    by false e later =
-        let more = later (subst (λ (b : Bool). IsSome (cond b (Some p.1) (item_at list slot))) e has) in
-        record {
-          before = p ∷ more.before;
-          item = more.item;
-          after = more.after;
-          is = ap (λ (xs : Pairs T). p ∷ xs) more.is;
-          found = ap (λ (b : Bool). cond b (Some p.1) (item_at list slot)) e ∙ more.found;
-        }
+      by : (b : Bool) → eqb p.0 slot ≡ b → (HasSlot list slot → Stands list slot) → Stands (p ∷ list) slot
+      by true e later = record {
+        before = [];
+        item = p.1;
+        after = list;
+        is = ap (λ (x : ℕ). (x, p.1) ∷ list) (eqb-true p.0 slot e);
+        found = ap (λ (b : Bool). cond b (Some p.1) (item_at list slot)) e;
+      }
+      by false e later =
+          let more = later (subst (λ (b : Bool). IsSome (cond b (Some p.1) (item_at list slot))) e has) in
+          record {
+            before = p ∷ more.before;
+            item = more.item;
+            after = more.after;
+            is = ap (λ (xs : Pairs T). p ∷ xs) more.is;
+            found = ap (λ (b : Bool). cond b (Some p.1) (item_at list slot)) e ∙ more.found;
+          }
 
   pub slots-middle : (before : Pairs T) (slot : ℕ) (item : T) (after : Pairs T) → slots_of (before ++ (slot, item) ∷ after) ≡ slots_of before ++ slot ∷ slots_of after
   slots-middle before slot item after = map-append (λ (p : ℕ × T). p.0) before ((slot, item) ∷ after)
@@ -249,9 +249,9 @@ module _ {T : Type 0} where
       elim (has_split (reverse list) (p ∷ []) slot (subst (λ (xs : Pairs T). HasSlot xs slot) (reverse-cons p list) h)) [
         | inl before ↦ has_more p list (Some slot) (has_reversed list slot before)
         | inr last ↦ (elim (eqb p.0 slot) as (λ b. IsSome (cond b (Some p.1) None) → IsSome (cond b (Some p.1) (item_at list slot))) [
-            | true ↦ λ _. refl
-            | false ↦ λ none. absurd (let e : false ≡ true = none in cc)
-          ]) last
+          | true ↦ λ _. refl
+          | false ↦ λ none. absurd (let e : false ≡ true = none in cc)
+        ]) last
       ]
 
   has_any : (o : Option ℕ) (list : Pairs T) → IfSome o (HasSlot (reverse list)) → IfSome o (HasSlot list)

@@ -36,10 +36,10 @@ impl Model for Links {
     ghost Value = { Numbers };
 
     ghost view = { λ l. record {
-        next = l.next.items;
-        prev = l.prev.items;
-        first = l.first;
-        final = l.last;
+      next = l.next.items;
+      prev = l.prev.items;
+      first = l.first;
+      final = l.last;
     } };
 
     ghost invariant = { λ l. length l.next.items ≡ length l.prev.items };
@@ -141,13 +141,7 @@ impl Links {
     }
 
     // Brings the slot between two slots, or none: four writes.
-    pub(crate) fn splice_in<L: Ledger>(
-        &mut self,
-        slot: u64,
-        a: u64,
-        b: u64,
-        steps: &mut Steps<L>,
-    )
+    pub(crate) fn splice_in<L: Ledger>(&mut self, slot: u64, a: u64, b: u64, steps: &mut Steps<L>)
         requires slot { IsEnd self.old slot }
         requires a { IsEnd self.old a }
         requires b { IsEnd self.old b }

@@ -121,7 +121,7 @@ impl GrowingTree {
         requires may { MayEnter self.old.version path prepared.finding }
         requires parts { cells_from prepared.parts
             ≡ map_list (cell_in (with_entry self.old.version path prepared.finding.outcome))
-                (parts_by path prepared.finding.outcome) }
+            (parts_by path prepared.finding.outcome) }
         ensures entered { OnOk result
             (self.new.version ≡ with_entry self.old.version path prepared.finding.outcome) }
         ensures outcome { IfOk result (λ outcome. arc_value outcome ≡ prepared.finding.outcome) }

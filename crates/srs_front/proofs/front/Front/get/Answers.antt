@@ -8,8 +8,12 @@ use Rattle.srs_front.proofs.front.Front.get.Goals as goal
 pub index-requires : goal.index-requires
 index-requires g c =
     let f = c.self.inside in
-    omega (arith, held_lt f.links f.items.items f.free.items f.free.cap (few_items f.items) (list_of f.links f.items.items) c.self.invariant c.args.slot
-    (rw c.self.view_is c.requires), f.items.ok.0)
+    omega (
+      arith,
+      held_lt f.links f.items.items f.free.items f.free.cap (few_items f.items) (list_of f.links f.items.items) c.self.invariant c.args.slot
+          (rw c.self.view_is c.requires),
+      f.items.ok.0,
+    )
 
 pub unreachable-requires : goal.unreachable-requires
 unreachable-requires g c =
