@@ -95,9 +95,10 @@ AreMatched slot path list = AllByRecursion (λ p. (eqb p.0 slot ≡ eqb (number_
 
 all_other : (slot : ℕ) (path : List Side) (list : Cells) → AllByRecursion (λ other. slot ≢ other) (slots_of list) → Lacking path list → AreMatched slot path list
 all_other slot path [] s l = tt
-all_other slot path (p ∷ list) s l =
-    ((ne_eqb p.0 slot (λ e. s.0 (sym e)) ∙ sym (number-differs p.1.path path (λ e. l.0 (sym e))), ne_eqb p.0 slot (λ e. s.0 (sym e)) ∙ sym (path-differs path p.1.path l.0)),
-    all_other slot path list s.1 l.1)
+all_other slot path (p ∷ list) s l = (
+  (ne_eqb p.0 slot (λ e. s.0 (sym e)) ∙ sym (number-differs p.1.path path (λ e. l.0 (sym e))), ne_eqb p.0 slot (λ e. s.0 (sym e)) ∙ sym (path-differs path p.1.path l.0)),
+  all_other slot path list s.1 l.1,
+)
 
 -- a slot that is found is in the list
 found_differs : (list : Cells) (number slot other : ℕ) → slot_with list number ≡ Some slot → AllByRecursion (λ s. other ≢ s) (slots_of list) → other ≢ slot
@@ -121,9 +122,10 @@ are_matched (p ∷ list) path slot e s d = by (eqb (number_at p.1.path) (number_
     by true t later =
         let here : Some p.0 ≡ Some slot = sym (ap (λ (b : Bool). cond b (Some p.0) (slot_with list (number_at path))) t) ∙ e in
         let is : p.0 ≡ slot = cc in
-        let same : p.1.path ≡ path = number-once p.1.path path (eqb-true (number_at p.1.path) (number_at path) t) in
-        ((eq-eqb p.0 slot is ∙ sym t, eq-eqb p.0 slot is ∙ sym (ap (path_eq path) same ∙ path_eq_same path)),
-        all_other slot path list (subst (λ (x : ℕ). AllByRecursion (λ other. x ≢ other) (slots_of list)) is s.0) (subst (λ (q : List Side). Lacking q list) same d.0))
+        let same : p.1.path ≡ path = number-once p.1.path path (eqb-true (number_at p.1.path) (number_at path) t) in (
+          (eq-eqb p.0 slot is ∙ sym t, eq-eqb p.0 slot is ∙ sym (ap (path_eq path) same ∙ path_eq_same path)),
+          all_other slot path list (subst (λ (x : ℕ). AllByRecursion (λ other. x ≢ other) (slots_of list)) is s.0) (subst (λ (q : List Side). Lacking q list) same d.0),
+        )
     by false t later =
         let there : slot_with list (number_at path) ≡ Some slot = sym (ap (λ (b : Bool). cond b (Some p.0) (slot_with list (number_at path))) t) ∙ e in
         let apart : eqb p.0 slot ≡ false = ne_eqb p.0 slot (found_differs list (number_at path) slot p.0 there s.0) in
@@ -266,7 +268,8 @@ pub number_more : (path : List Side) (i number later : ℕ) (s : Side) → i < l
     → later ≡ number * 2 + digit_of s → (later ≡ digits_then 1 (take (i + 1) path)) × (later < 2 ^ (i + 1 + 1))
 number_more path i number later s lt side is small made =
     let one_more : suc (i + 1) ≡ i + 1 + 1 = omega arith in
-    let below : later < 2 ^ suc (i + 1) = omega (arith, small, made, digit_below s, pow-suc 2 (i + 1)) in
-    (made ∙ ap (λ (k : ℕ). k * 2 + digit_of s) is ∙ sym (digits_then-push 1 (take i path) s)
-    ∙ ap (λ (t : Side). digits_then 1 (take i path ++ t ∷ [])) (sym (get_or_from_slice_get path i s s side)) ∙ ap (digits_then 1) (sym (take_more path i s lt)),
-    subst (λ (k : ℕ). later < 2 ^ k) one_more below)
+    let below : later < 2 ^ suc (i + 1) = omega (arith, small, made, digit_below s, pow-suc 2 (i + 1)) in (
+      made ∙ ap (λ (k : ℕ). k * 2 + digit_of s) is ∙ sym (digits_then-push 1 (take i path) s)
+          ∙ ap (λ (t : Side). digits_then 1 (take i path ++ t ∷ [])) (sym (get_or_from_slice_get path i s s side)) ∙ ap (digits_then 1) (sym (take_more path i s lt)),
+      subst (λ (k : ℕ). later < 2 ^ k) one_more below,
+    )

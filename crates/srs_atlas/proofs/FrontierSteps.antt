@@ -41,39 +41,46 @@ module _ (slots later : BTreeMap ℕ ℕ) (list : Cells) (are : AreSlotsOf slots
   pub pushed : (more : Cells) (slot number : ℕ) (cell : WaitingCell) → LacksPath cell.path (cells_of list) → number ≡ number_at cell.path → more ≡ list ++ (slot, cell) ∷ []
       → UpdatesBy nat_cmp (nat_cmp number) slots later (Some slot) → AreSlotsOf later more × (cells_of more ≡ cells_of list ++ cell ∷ [])
   pushed more slot number cell lacks is made updates =
-      let seen : cells_of more ≡ cells_of list ++ cell ∷ [] = ap cells_of made ∙ map-append (λ (p : ℕ × WaitingCell). p.1) list ((slot, cell) ∷ []) in
-      (record {
-        exactly = λ k. changed_get slots later number (Some slot) updates k ∙ ap (cond (eqb number k) (Some slot)) (are.exactly k)
-            ∙ ap (λ (n : ℕ). cond (eqb n k) (Some slot) (slot_with list k)) is ∙ sym (slot_with-push list slot cell k lacks) ∙ ap (λ (xs : Cells). slot_with xs k) (sym made);
-        once = subst DoPathsDiffer (sym seen) (differ_push (cells_of list) cell are.once lacks);
-      }, seen)
+      let seen : cells_of more ≡ cells_of list ++ cell ∷ [] = ap cells_of made ∙ map-append (λ (p : ℕ × WaitingCell). p.1) list ((slot, cell) ∷ []) in (
+        record {
+          exactly = λ k. changed_get slots later number (Some slot) updates k ∙ ap (cond (eqb number k) (Some slot)) (are.exactly k)
+              ∙ ap (λ (n : ℕ). cond (eqb n k) (Some slot) (slot_with list k)) is ∙ sym (slot_with-push list slot cell k lacks) ∙ ap (λ (xs : Cells). slot_with xs k) (sym made);
+          once = subst DoPathsDiffer (sym seen) (differ_push (cells_of list) cell are.once lacks);
+        },
+        seen,
+      )
 
   pub undone : (more back : Cells) (slot : ℕ) (cell : WaitingCell) → item_at list slot ≡ None → more ≡ list ++ (slot, cell) ∷ [] → back ≡ without_slot slot more → later.entries ≡ slots.entries
       → AreSlotsOf later back × (cells_of back ≡ cells_of list)
   undone more back slot cell free made out same =
-      let is : back ≡ list = out ∙ ap (without_slot slot) made ∙ without_pushed list slot cell free in
-      (record {
-        exactly = λ k. same_get slots later same k ∙ are.exactly k ∙ ap (λ (xs : Cells). slot_with xs k) (sym is);
-        once = subst (λ (xs : Cells). DoPathsDiffer (cells_of xs)) (sym is) are.once;
-      }, ap cells_of is)
+      let is : back ≡ list = out ∙ ap (without_slot slot) made ∙ without_pushed list slot cell free in (
+        record {
+          exactly = λ k. same_get slots later same k ∙ are.exactly k ∙ ap (λ (xs : Cells). slot_with xs k) (sym is);
+          once = subst (λ (xs : Cells). DoPathsDiffer (cells_of xs)) (sym is) are.once;
+        },
+        ap cells_of is,
+      )
 
   pub gone : (less : Cells) (slot number : ℕ) (path : List Side) → DoSlotsDiffer list → number ≡ number_at path → get nat_cmp slots number ≡ Some slot
       → UpdatesBy nat_cmp (nat_cmp number) slots later None → less ≡ without_slot slot list → AreSlotsOf later less × (cells_of less ≡ without path (cells_of list))
   gone less slot number path differ is found updates out =
       let there : slot_with list (number_at path) ≡ Some slot = ap (slot_with list) (sym is) ∙ sym (are.exactly number) ∙ found in
       let matched = are_matched list path slot there differ are.once in
-      let seen : cells_of less ≡ without path (cells_of list) = ap cells_of out ∙ cells-without list path slot matched in
-      (record {
-        exactly = λ k. changed_get slots later number None updates k ∙ ap (cond (eqb number k) None) (are.exactly k)
-            ∙ ap (λ (n : ℕ). cond (eqb n k) None (slot_with list k)) is ∙ sym (slot_with-without list path slot k matched) ∙ ap (λ (xs : Cells). slot_with xs k) (sym out);
-        once = subst DoPathsDiffer (sym seen) (differ_without path (cells_of list) are.once);
-      }, seen)
+      let seen : cells_of less ≡ without path (cells_of list) = ap cells_of out ∙ cells-without list path slot matched in (
+        record {
+          exactly = λ k. changed_get slots later number None updates k ∙ ap (cond (eqb number k) None) (are.exactly k)
+              ∙ ap (λ (n : ℕ). cond (eqb n k) None (slot_with list k)) is ∙ sym (slot_with-without list path slot k matched) ∙ ap (λ (xs : Cells). slot_with xs k) (sym out);
+          once = subst DoPathsDiffer (sym seen) (differ_without path (cells_of list) are.once);
+        },
+        seen,
+      )
 
   pub nothing : (number : ℕ) (path : List Side) → number ≡ number_at path → get nat_cmp slots number ≡ None → later.entries ≡ slots.entries
       → AreSlotsOf later list × (cells_of list ≡ without path (cells_of list))
-  nothing number path is none same =
-      (record { exactly = λ k. same_get slots later same k ∙ are.exactly k; once = are.once },
-      sym (none_found list path (ap (slot_with list) (sym is) ∙ sym (are.exactly number) ∙ none)))
+  nothing number path is none same = (
+    record { exactly = λ k. same_get slots later same k ∙ are.exactly k; once = are.once },
+    sym (none_found list path (ap (slot_with list) (sym is) ∙ sym (are.exactly number) ∙ none)),
+  )
 
 -- what holds on one outcome
 pub on_err : {A E : Type 0} (r : Result A E) (P : Type 0) → OnErr r P → is_err r ≡ true → P

@@ -149,7 +149,7 @@ fn nodes_of(parts: Option<(Pending, Pending)>) -> Option<(Node, Node)>
     }
 }
 
-// The same, by the cell at the place `i`.
+// As `enter`, by the cell at the place `i`.
 fn enter_at(nodes: &mut Nodes, alloc: Global, i: usize, f: Finding) -> Result<Added, Finding>
     requires there { i < length nodes.old }
     requires may { (x : Spot) → slice_get nodes.old i ≡ Some x → IsReadyFor x f }
