@@ -23,8 +23,9 @@ use std::alloc::Global;
 use std::marker::Model;
 use std::sync::Wait;
 
-/// A tree that threads refine and ask at the same time. It is seen as which atlas it is, and what no operation changes
-/// (`fixed`): its root region, the most witnesses of a cell, and its plan, if it has one.
+/// A tree that threads refine and ask at the same time. It is seen as which atlas it is, and what
+/// no operation changes (`fixed`): its root region, the most witnesses of a cell, and its plan, if
+/// it has one.
 #[derive(Drop)]
 pub struct Atlas {
     turn: Turn<Book>,
@@ -49,7 +50,8 @@ impl Model for Atlas {
 }
 
 impl Atlas {
-    /// An atlas of the cell, without an event and without a plan, and the first pass. An `Err` is want of memory.
+    /// An atlas of the cell, without an event and without a plan, and the first pass. An `Err` is
+    /// want of memory.
     pub fn start<R: Wait>(
         rt: &R,
         alloc: Global,
@@ -114,8 +116,8 @@ impl Atlas {
         self.plan
     }
 
-    /// Waits for the turn, and enters the finding at the path. Where the atlas has a plan, the finding keeps to it at some
-    /// beginning of what the pass has seen.
+    /// Waits for the turn, and enters the finding at the path. Where the atlas has a plan, the
+    /// finding keeps to it at some beginning of what the pass has seen.
     pub fn commit<R: Wait>(
         &self,
         rt: &R,
@@ -173,7 +175,8 @@ impl Atlas {
         self.turn.count(pass)
     }
 
-    /// Waits for the turn, and lists the cells without an event, in the order of the frontier. An `Err` is want of memory.
+    /// Waits for the turn, and lists the cells without an event, in the order of the frontier. An
+    /// `Err` is want of memory.
     pub fn pending<R: Wait>(
         &self,
         rt: &R,
@@ -209,8 +212,8 @@ impl Atlas {
         self.turn.split(pass)
     }
 
-    /// The pass has then seen the longer of the two histories, one of which begins the other. It takes no memory and waits
-    /// for nobody.
+    /// The pass has then seen the longer of the two histories, one of which begins the other. It
+    /// takes no memory and waits for nobody.
     pub fn join_pass(&self, pass: &mut AtlasPass, other: AtlasPass)
         requires { IsPassOf self.now pass.old × IsPassOf self.now other }
         ensures own { IsPassOf self.now pass.new }
@@ -221,7 +224,8 @@ impl Atlas {
         self.turn.join(pass, other);
     }
 
-    /// Waits for the turn, and hands out the newest version and the history, which begins with what the pass has seen.
+    /// Waits for the turn, and hands out the newest version and the history, which begins with what
+    /// the pass has seen.
     pub fn finish<R: Wait>(self, rt: &R, pass: AtlasPass) -> (Version, Journal)
         requires { IsPassOf self pass }
         ensures seen { Begins pass.seen result.1 }

@@ -18,8 +18,8 @@ use srs_turn::Told;
 use std::alloc::Global;
 use std::marker::Model;
 
-/// What no operation on an atlas changes: the root region, the most witnesses of a cell, and the plan, if there is one. No
-/// value of it is made.
+/// What no operation on an atlas changes: the root region, the most witnesses of a cell, and the
+/// plan, if there is one. No value of it is made.
 pub struct Terms {
     pub root: Region,
     pub w: u32,

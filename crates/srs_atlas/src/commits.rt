@@ -8,9 +8,10 @@ use srs_tree::TreeErr;
 use std::alloc::Global;
 use std::sync::Arc;
 
-/// What became of a finding at a path: the history has this many events, the last of which is the finding's; the cell had
-/// this outcome; the path is no cell, and this is its longest beginning that is one; this is the cell there, and the
-/// finding is of another region; want of memory, with the finding.
+/// What became of a finding at a path: the history has this many events, the last of which is the
+/// finding's; the cell had this outcome; the path is no cell, and this is its longest beginning
+/// that is one; this is the cell there, and the finding is of another region; want of memory, with
+/// the finding.
 #[derive(Drop)]
 pub enum Commit {
     Done(u64),
@@ -32,8 +33,8 @@ pub(crate) fn refused(refusal: TreeErr) -> Commit
     }
 }
 
-// The finding, with its outcome where it can have more owners, so that less is to be done under the turn. Where there is no
-// memory for that, it is done there.
+// The finding, with its outcome where it can have more owners, so that less is to be done under the
+// turn. Where there is no memory for that, it is done there.
 pub(crate) fn prepared(alloc: Global, f: Finding) -> Finding
     ensures { result ≡ f }
 {

@@ -14,8 +14,8 @@ use std::collections::BTreeMap;
 use std::marker::{Brand, Model};
 use std::sync::ledger::{Blank, Ledger};
 
-// The cells that wait, seen as the list of them. They are linked by index, and a map gives the slot of a cell by the number of
-// its path, so that one is taken out wherever it stands.
+// The cells that wait, seen as the list of them. They are linked by index, and a map gives the slot
+// of a cell by the number of its path, so that one is taken out wherever it stands.
 #[derive(Drop)]
 pub(crate) struct Frontier {
     cells: Front<Pending>,
@@ -157,7 +157,8 @@ fn walked(alloc: Global, cells: &Front<Pending>) -> Result<Vec<Pending>, NoMemor
     Ok(list)
 }
 
-// The number of the cell at the path, where the root has the number 1, and the parts of the cell k have 2k and 2k + 1.
+// The number of the cell at the path, where the root has the number 1, and the parts of the cell k
+// have 2k and 2k + 1.
 fn number_of(path: &Path) -> u64
     ensures { result ≡ digits_then 1 path.now }
 {

@@ -9,8 +9,8 @@ use srs_refine::refine;
 use std::alloc::Global;
 use std::sync::Wait;
 
-// What became of a finding: how many events there are; the form that cuts; the length and the last side of the cell that
-// is named; how many halves the cell has, and the last of them; no memory.
+// What became of a finding: how many events there are; the form that cuts; the length and the last
+// side of the cell that is named; how many halves the cell has, and the last of them; no memory.
 #[derive(Clone, Copy, Debug, PartialEq, Eq, Drop)]
 pub enum Told {
     Done(u64),

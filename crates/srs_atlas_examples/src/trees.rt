@@ -27,8 +27,8 @@ fn enter(alloc: Global, tree: &mut GrowingTree) -> Result<(), Fail> {
     Ok(())
 }
 
-// What a version tells that is taken before the outcome of the root is entered, asked after that; and what one tells that is
-// taken then.
+// What a version tells that is taken before the outcome of the root is entered, asked after that;
+// and what one tells that is taken then.
 fn taken(alloc: Global, tree: &mut GrowingTree) -> Result<[(bool, u64, bool); 2], Fail> {
     let before = tree.version(alloc)?;
     enter(alloc, tree)?;

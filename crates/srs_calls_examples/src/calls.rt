@@ -20,7 +20,8 @@ const COMMITS: [(&str, Option<Side>); 5] = [
     ("g", Some(Side::Ge)),
 ];
 
-// The atlas of the triangle, without an event, and its first pass: by the second call where the first found no memory.
+// The atlas of the triangle, without an event, and its first pass: by the second call where the
+// first found no memory.
 pub fn started<R: Wait>(rt: &HostRuntime, turns: &R, alloc: Global) -> Option<(Atlas, AtlasPass)>
     ensures { IfSome result (λ r. IsPassOf r.0 r.1 × (r.0.fixed.plan ≡ None)) }
 {

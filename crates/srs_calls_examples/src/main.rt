@@ -1,5 +1,6 @@
-//! The calls of an atlas, one after another, as a program: each says what it answered, and one that found no memory is made
-//! again. `tools/fail_memory` runs it with each of its allocations refused in turn.
+//! The calls of an atlas, one after another, as a program: each says what it answered, and one that
+//! found no memory is made again. `tools/fail_memory` runs it with each of its allocations refused
+//! in turn.
 #![tactic(auto)]
 
 mod calls;

@@ -1,5 +1,5 @@
-//! Worked examples of readers that take a text line by line, each section by itself; of a certificate that is made of its parts;
-//! and of the text of a live run.
+//! Worked examples of readers that take a text line by line, each section by itself; of a
+//! certificate that is made of its parts; and of the text of a live run.
 #![tactic(auto)]
 
 #[cfg(test)]

@@ -1,5 +1,5 @@
-//! Worked examples of texts: what the readers refuse, on which line and why, what is read and written back, and how what is
-//! said is written. The texts and the answers come from outside.
+//! Worked examples of texts: what the readers refuse, on which line and why, what is read and
+//! written back, and how what is said is written. The texts and the answers come from outside.
 #![tactic(auto)]
 
 #[cfg(test)]

@@ -17,7 +17,8 @@ enum Told {
     Beyond,
 }
 
-// What is said, as a table has it: the four of a polygon are whether inside, outside, undecided and beyond come.
+// What is said, as a table has it: the four of a polygon are whether inside, outside, undecided and
+// beyond come.
 #[derive(Clone, Copy, Drop)]
 enum Plain {
     At(u32),

@@ -44,8 +44,8 @@ const EDGES: [Row; 6] = [
     ((0, 0, 1), Told::Inside, Some("gg")),
 ];
 
-// Within y = 0 on both sides of x = 0; on the line x + y = 0, and on both sides of it; just below y = 0 on both sides of
-// x + y = 0.
+// Within y = 0 on both sides of x = 0; on the line x + y = 0, and on both sides of it; just below y
+// = 0 on both sides of x + y = 0.
 const LINES: [Row; 8] = [
     ((1, 0, DEEPEST), Told::Inside, Some("gg")),
     ((-1, 0, DEEPEST), Told::Outside(&[0, 1]), Some("gl")),
@@ -65,8 +65,8 @@ const LINES: [Row; 8] = [
     ((-1, -1, DEEPEST), Told::Outside(&[1]), Some("ll")),
 ];
 
-// The corner (1/8, 0), just inside it and just outside; past the edge y = 0, past the other corners and past another edge;
-// far away.
+// The corner (1/8, 0), just inside it and just outside; past the edge y = 0, past the other corners
+// and past another edge; far away.
 const BEYOND: [Row; 8] = [
     ((EIGHTH, 0, DEEPEST), Told::Inside, Some("gg")),
     ((EIGHTH - 1, 0, DEEPEST), Told::Inside, Some("gg")),
@@ -132,7 +132,8 @@ fn is_reply(reply: &Reply, told: Told) -> bool {
     }
 }
 
-// Whether the version answers so at the point, and so does the reply; and the path of the leaf that holds the point.
+// Whether the version answers so at the point, and so does the reply; and the path of the leaf that
+// holds the point.
 fn answers<L: Ledger>(
     alloc: Global,
     version: &Version,

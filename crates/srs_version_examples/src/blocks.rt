@@ -57,8 +57,8 @@ fn older_versions_stay(rt: HostRuntime) -> Result<(), Fail> {
 
 const TRIANGLE: &str = "polygon 3\nge -1 0 1\nge 1 -2 1\nge 1 2 1\nend\n";
 
-// Depths and numbers of cells of plans, and how many cells their trees have at least: past a block of 64, and past a row of
-// 4096.
+// Depths and numbers of cells of plans, and how many cells their trees have at least: past a block
+// of 64, and past a row of 4096.
 const PLANS: [(u32, u32, u64); 2] = [(7, 256, 65), (14, 16384, 4097)];
 
 fn planned(alloc: Global, depth: u32, cells: u32) -> Result<Version, Fail> {

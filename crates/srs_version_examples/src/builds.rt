@@ -80,7 +80,8 @@ fn a_left_cell_is_built(rt: HostRuntime) -> Result<(), Fail> {
     Ok(())
 }
 
-// Certificates of the corner and of other triangles with a node that doesn't prove itself, its line, and the fault.
+// Certificates of the corner and of other triangles with a node that doesn't prove itself, its
+// line, and the fault.
 const BAD: [(&str, u32, Fault); 6] = [
     (
         "srs 1\npolygon 3\nge 0 0 1\nge 1 0 8\nge 0 1 8\nlimits 0 1 16\nin 8\nw -1 -1 4\nw -1 0 3\nw -1 1 3\nw 0 -1 4\nw 0 0 0\nw 0 1 2\nw 1 -1 4\nw 1 1 2\nend\n",
@@ -128,7 +129,8 @@ fn a_checked_certificate(rt: HostRuntime) -> Result<(), Fail> {
     Ok(())
 }
 
-// The line and the fault of the first node that doesn't prove itself, where the check says them as what is built does.
+// The line and the fault of the first node that doesn't prove itself, where the check says them as
+// what is built does.
 fn fault_of(alloc: Global, text: &str) -> Result<Option<(u32, Fault)>, Fail> {
     let cert = certificate(alloc, text)?;
     match (build(alloc, &cert)?, check(alloc, &cert)?) {

@@ -1,5 +1,5 @@
-//! Worked examples of the calls of srs_tree, srs_raster, srs_check and of certificates: each call once with ample memory, its
-//! answer compared with a value from outside. A table a subject.
+//! Worked examples of the calls of srs_tree, srs_raster, srs_check and of certificates: each call
+//! once with ample memory, its answer compared with a value from outside. A table a subject.
 #![tactic(auto)]
 
 #[cfg(test)]

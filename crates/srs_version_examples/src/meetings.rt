@@ -31,8 +31,8 @@ const WHOLE: [Row; 4] = [
     ),
 ];
 
-// One point of a leaf: (-1/8, 0) of the segment that is left, and without that point; (1/8, 0); (0, -1/8); (1/32, -1/32) on
-// the line between two leaves, and without it.
+// One point of a leaf: (-1/8, 0) of the segment that is left, and without that point; (1/8, 0); (0,
+// -1/8); (1/32, -1/32) on the line between two leaves, and without it.
 const TOUCHING: [Row; 6] = [
     (
         "polygon 3\nge -1 0 8\nge -2 1 8\nge -2 -1 8\nend\n",

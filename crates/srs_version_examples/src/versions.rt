@@ -8,8 +8,8 @@ use srs_tree::{Pending, TreeBuilder, TreeErr, Version};
 use std::alloc::Global;
 use std::test::Fail;
 
-// Why a finding isn't entered: the length and the first side of the cell that is named; the form that cuts it; or how many
-// halves it has, and the last of them.
+// Why a finding isn't entered: the length and the first side of the cell that is named; the form
+// that cuts it; or how many halves it has, and the last of them.
 #[derive(Clone, Copy, Debug, PartialEq, Eq, Drop)]
 enum Refusal {
     NotThere(u32, Option<Side>),
@@ -133,8 +133,8 @@ fn halves(parts: &Option<(Pending, Pending)>) -> Option<(u32, u32)> {
     }
 }
 
-// The tree with the root's finding, which is looked for at this place first, and how many halves the two cells have that it
-// makes.
+// The tree with the root's finding, which is looked for at this place first, and how many halves
+// the two cells have that it makes.
 fn built(alloc: Global, near: usize) -> Result<(Version, Option<(u32, u32)>), Fail> {
     let cell = cell_of(alloc, SPLIT)?;
     if cell.region().len() > 16 {
