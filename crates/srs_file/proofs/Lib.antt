@@ -34,3 +34,6 @@ pub mod SessionRuns
 pub mod LiveTexts
 pub mod SaidLaws
 pub mod LiveLaws
+pub mod SlipNames
+pub mod BareSteps
+pub mod FeedLaws

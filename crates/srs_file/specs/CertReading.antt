@@ -9,6 +9,7 @@ use Rattle.srs_line.specs.declared.slip.FileErr.TheVariants.{At, NoMemory}
 use Rattle.srs_line.specs.Fields.{Says, IsFieldSlip}
 use Rattle.srs_line.specs.Machine.{IsRead, SlipsAt}
 use Rattle.srs_line.specs.Refusal.{IsRefused}
+use Rattle.srs_file.specs.declared.tree.Node.{Node}
 use Rattle.srs_file.specs.declared.tree.Tree.{Tree}
 use Rattle.srs_file.specs.declared.cert_reader.CertPhase.{CertPhase}
 use Rattle.srs_file.specs.declared.cert_reader.CertPhase.TheVariants.{First, Polygon, Nodes, Done}
@@ -17,7 +18,7 @@ use Rattle.srs_file.specs.Grammar.{SpellsCertificate}
 use Rattle.srs_cert.specs.Certificates.{CertView}
 use Rattle.srs_file.specs.declared.outline.Outline.{Outline}
 use Rattle.srs_file.specs.Outline.{no_outline, IsWholeOutline, TakesOutline, SlipsOutline}
-use Rattle.srs_file.specs.TreeReading.{no_tree, only_root, TakesLine, SlipsLine}
+use Rattle.srs_file.specs.TreeReading.{no_tree, only_root, gathered, TakesLine, SlipsLine}
 
 -- the first line says the version, which is 1
 abbrev pub StepsFirst : CertReader → List ℕ → CertReader → Type 0
@@ -98,6 +99,16 @@ CertEnds reader = reader.phase ≡ Done
 -- a reader before the first line
 abbrev pub cert_start : CertReader
 cert_start = record { phase = First; outline = no_outline; tree = no_tree }
+
+-- the reader with the event of the node, if one was read
+abbrev pub gathers : CertReader → Option Node → CertReader
+gathers reader node = record reader { tree = gathered reader.tree node }
+
+-- what a line that is refused leaves as it was: what is waited for, the polygon and the limits
+pub record KeepsHead (old new : CertReader) : Type 0 where
+  pub phase : new.phase ≡ old.phase
+  pub outline : new.outline ≡ old.outline
+  pub limits : new.tree.limits ≡ old.tree.limits
 
 -- the limits, once their line was read
 abbrev pub limits_in : CertPhase → Budget → Option Budget

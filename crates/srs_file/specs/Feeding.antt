@@ -1,5 +1,5 @@
 -- A certificate that is read as its lines come.
-use Rattle.std.specs.Prelude.{◌≡◌, ◌≢◌, ⊤, ℕ, ◌+◌, List, [], ◌∷◌, ◌++◌, length, None, Some}
+use Rattle.std.specs.Prelude.{◌≡◌, ◌≢◌, ⊤, ℕ, ◌+◌, ◌-◌, List, [], ◌∷◌, ◌++◌, length, None, Some}
 use Rattle.std.specs.declared.option.Option.{Option}
 use Rattle.srs_path.specs.declared.paths.Side.{Side}
 use Rattle.srs_path.specs.Views.{Budget}
@@ -7,10 +7,14 @@ use Rattle.srs_line.specs.declared.slip.Slip.{Slip}
 use Rattle.srs_line.specs.declared.slip.Slip.TheVariants.{Missing}
 use Rattle.srs_line.specs.declared.slip.FileErr.{FileErr}
 use Rattle.srs_line.specs.declared.slip.FileErr.TheVariants.{At, NoMemory}
+use Rattle.srs_line.specs.declared.slip.LineErr.{LineErr}
+use Rattle.srs_line.specs.declared.slip.LineErr.TheVariants as lines
 use Rattle.srs_line.specs.Machine.{lines_text, Runs}
+use Rattle.srs_cert.specs.Heights.{height}
 use Rattle.srs_cert.specs.Texts.{outcome_text}
 use Rattle.srs_cert.specs.Certificates.{lf_count}
 use Rattle.srs_file.specs.declared.cert_reader.CertReader.{CertReader}
+use Rattle.srs_file.specs.declared.tree.Node.{Node}
 use Rattle.srs_file.specs.declared.cert_feed.NodeAt.{NodeAt}
 use Rattle.srs_file.specs.TreeReading.{at_path}
 use Rattle.srs_file.specs.CertReading.{cert_start, CertSteps, limits_in, FirstCertSlip}
@@ -66,3 +70,15 @@ pub record ShowsSame (old new : CertFeedView) : Type 0 where
   pub vertices : new.reader.outline.ring.vertices ≡ old.reader.outline.ring.vertices
   pub limits : fed_limits new ≡ fed_limits old
   pub count : new.count ≡ old.count
+
+-- what is told of the node that ends with the line of this number
+abbrev pub IsTold : ℕ → Option Node → Option NodeAt → Type 0
+IsTold at None None = ⊤
+IsTold at None (Some told) = ⊥
+IsTold at (Some node) None = ⊥
+IsTold at (Some node) (Some told) = (told.line ≡ at - (height node.outcome - 1)) × (told.depth ≡ length node.path) × (told.outcome ≡ node.outcome)
+
+-- where the slip stands that the line of this number shows
+abbrev pub Refuses : ℕ → LineErr → FileErr → Type 0
+Refuses at (lines.Slip slip back) error = error ≡ At (at - back) slip
+Refuses at lines.NoMemory error = error ≡ NoMemory

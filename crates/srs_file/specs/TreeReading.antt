@@ -1,5 +1,6 @@
 -- The lines of a tree, in preorder: cuts, leaves, and the witnesses of inside leaves.
-use Rattle.std.specs.Prelude.{◌≡◌, ◌⊎◌, ℕ, ◌+◌, ◌<◌, ◌≤◌, ℤ, pos, List, [], ◌∷◌, ◌++◌, length, codes}
+use Rattle.std.specs.Prelude.{◌≡◌, ◌⊎◌, ℕ, ◌+◌, ◌<◌, ◌≤◌, ℤ, pos, List, [], ◌∷◌, ◌++◌, length, None, Some, codes}
+use Rattle.std.specs.declared.option.Option.{Option}
 use Rattle.srs_num.specs.Points.{LinearForm, IsFormSized}
 use Rattle.srs_path.specs.declared.paths.Side.{Side}
 use Rattle.srs_path.specs.declared.paths.Side.TheVariants.{Ge, Lt}
@@ -12,6 +13,7 @@ use Rattle.srs_line.specs.declared.slip.Slip.{Slip}
 use Rattle.srs_line.specs.declared.slip.Slip.TheVariants.{Word, Count, Range}
 use Rattle.srs_line.specs.Fields.{Says, HasWord, IsFieldSlip, SaysCount, IsCountSlip}
 use Rattle.srs_line.specs.Many.{IsManySlip}
+use Rattle.srs_file.specs.declared.tree.Node.{Node}
 use Rattle.srs_file.specs.declared.tree.Tree.{Tree}
 use Rattle.srs_cert.specs.Texts.{cause_text}
 use Rattle.srs_file.specs.Leaf.{LeafView, TakesEntry, SlipsEntry}
@@ -35,6 +37,16 @@ only_root b = record { limits = b; cells = 1; pending = [] ∷ []; leaf = no_lea
 -- an outcome as the event at a path
 abbrev pub at_path : List Side → Outcome → Entry
 at_path path o = record { path = path; outcome = o }
+
+-- the tree with the event of the node, if one was read
+abbrev pub gathered : Tree → Option Node → Tree
+gathered tree None = tree
+gathered tree (Some node) = record tree { events = tree.events ++ at_path node.path node.outcome ∷ [] }
+
+-- what isn't read from a line of the tree
+pub record KeepsRest (old new : Tree) : Type 0 where
+  pub limits : new.limits ≡ old.limits
+  pub events : new.events ≡ old.events
 
 -- the next cell has the outcome, and isn't cut
 abbrev pub TakesOutcome : Tree → Outcome → Tree → Type 0

@@ -1,13 +1,15 @@
 // A certificate that is read as its lines come.
-ghost use Rattle.std.specs.Prelude.{◌≡◌, ◌++◌, [], List, ℕ, OnOk, OnErr, IfOk, IfErr, IfSome, Err, Some};
+ghost use Rattle.std.specs.Prelude.{◌≡◌, ◌+◌, ◌++◌, [], List, ℕ, OnOk, OnErr, IfOk, IfErr, IfSome, Err, Some};
 ghost use Rattle.srs_text.specs.Line.{HasNoLf};
 ghost use Rattle.srs_line.specs.Machine.{lines_text};
+ghost use Rattle.srs_cert.specs.Heights.{height};
 ghost use Rattle.srs_file.specs.Grammar.{SpellsCertificate};
 ghost use Rattle.srs_file.specs.declared.cert_reader.CertReader.{CertReader};
 ghost use Rattle.srs_file.specs.CertReading.{cert_start, read_view, IsCertRefusal, IsNoCert};
+ghost use Rattle.srs_file.specs.Feeding.{IsTold, Refuses};
 
-use crate::CertReader;
-use srs_line::FileErr;
+use crate::{CertReader, Node};
+use srs_line::{FileErr, LineErr, LineMachine, Slip};
 use srs_num::NoMemory;
 use srs_path::{Limits, Outcome};
 use srs_plane::Vertex;
@@ -66,12 +68,38 @@ impl CertFeed {
         ensures again { IfSome self.old.failed
             (λ error. (result ≡ Err error) × (self.new ≡ self.old)) }
     {
-        let _reads = line.len();
         if let Some(error) = self.failed {
             return Err(error);
         }
-        self.failed = Some(FileErr::NoMemory);
-        Err(FileErr::NoMemory)
+        match self.take(line) {
+            Ok(node) => Ok(node),
+            Err(error) => {
+                self.failed = Some(error);
+                Err(error)
+            }
+        }
+    }
+
+    // Takes the next line. An `Err` is not kept yet.
+    fn take(&mut self, line: &[u8]) -> Result<Option<NodeAt>, FileErr>
+        requires { HasNoLf line.now }
+        ensures good { IfOk result (λ node. (lines : List (List ℕ)) (s : CertReader) →
+            IsFed self.old lines s → FeedsLine lines s line.now node self.new) }
+        ensures refused { IfErr result (λ error. (lines : List (List ℕ)) (s : CertReader) →
+            IsFed self.old lines s → IsLineRefusal lines line.now error) }
+        ensures shown { OnErr result (ShowsSame self.old self.new) }
+    {
+        let at = next_line(self.count)?;
+        if self.reader.is_done() {
+            return Err(FileErr::At(at, Slip::Tail));
+        }
+        match self.reader.advance(line) {
+            Ok(node) => {
+                self.count = at;
+                Ok(told(at, node))
+            }
+            Err(error) => Err(refusal(at, error)),
+        }
     }
 
     /// Takes what follows the last LF: the text of the certificate is whole, or this is its first slip.
@@ -85,11 +113,17 @@ impl CertFeed {
             IsFed self lines s → IsNoCert (lines_text lines ++ rest.now) error) }
         ensures again { IfSome self.failed (λ error. result ≡ Err error) }
     {
-        let _reads = rest.len();
-        match self.failed {
-            Some(error) => Err(error),
-            None => Err(FileErr::NoMemory),
+        if let Some(error) = self.failed {
+            return Err(error);
         }
+        let at = next_line(self.count)?;
+        if !self.reader.is_done() {
+            return Err(FileErr::At(at, Slip::Missing));
+        }
+        if !rest.is_empty() {
+            return Err(FileErr::At(at, Slip::Tail));
+        }
+        Ok(())
     }
 
     /// The vertices that were fed. It takes no memory.
@@ -104,5 +138,49 @@ impl CertFeed {
         ensures { result ≡ fed_limits self.now }
     {
         self.reader.limits_read()
+    }
+}
+
+// The number of the line after so many. A certificate within its limits has far fewer lines than a u32 counts, so this is
+// never an `Err`.
+fn next_line(count: u32) -> Result<u32, FileErr>
+    ensures ok { IfOk result (λ at. at ≡ count + 1) }
+    ensures err { IfErr result (λ error. error ≡ FileErr.NoMemory) }
+{
+    match count.checked_add(1) {
+        Some(at) => Ok(at),
+        None => Err(FileErr::NoMemory),
+    }
+}
+
+// The node that ended with this line: an inside leaf has a line more for each witness.
+fn told(at: u32, node: Option<Node>) -> Option<NodeAt>
+    ensures { IsTold at node result }
+{
+    let node = node?;
+    Some(NodeAt {
+        line: at.saturating_sub(lines_below(&node.outcome)),
+        depth: node.path.len(),
+        outcome: node.outcome,
+    })
+}
+
+// How many lines an outcome has below its first.
+fn lines_below(outcome: &Outcome) -> u32
+    ensures { result + 1 ≡ height outcome.now }
+{
+    match outcome {
+        Outcome::Inside(ranks) => ranks.len(),
+        Outcome::Outside(_) | Outcome::Cut(_) | Outcome::Left(_) => 0,
+    }
+}
+
+// Where the slip stands that this line shows.
+fn refusal(at: u32, error: LineErr) -> FileErr
+    ensures { Refuses at error result }
+{
+    match error {
+        LineErr::Slip(slip, back) => FileErr::At((at as u64).saturating_sub(back) as u32, slip),
+        LineErr::NoMemory => FileErr::NoMemory,
     }
 }

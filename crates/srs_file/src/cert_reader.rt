@@ -1,14 +1,14 @@
 // Reads the text of a certificate.
-ghost use Rattle.std.specs.Prelude.{List, ℕ, ℤ, ◌≡◌, ◌≢◌, ◌↔◌, ◌+◌, ◌^◌, ◌<◌, [], ◌∷◌, pos, IsTrue, OnOk, IfOk, IfErr, IfSome, IfNone, length};
+ghost use Rattle.std.specs.Prelude.{List, ℕ, ℤ, ◌≡◌, ◌≢◌, ◌↔◌, ◌+◌, ◌^◌, ◌<◌, [], ◌∷◌, pos, IsTrue, OnOk, OnErr, IfOk, IfErr, IfSome, IfNone, length};
 ghost use Rattle.srs_path.specs.Views.{Budget, IsBudget};
 ghost use Rattle.srs_line.specs.declared.slip.Slip.{Slip};
 ghost use Rattle.srs_line.specs.Refusal.{IsSlip};
 ghost use Rattle.srs_file.specs.Grammar.{SpellsCertificate};
 ghost use Rattle.srs_cert.specs.Certificates.{CertView, IsCertificate, cert_text};
-ghost use Rattle.srs_file.specs.CertReading.{cert_start, limits_in, read_view, StepsFirst, SlipsFirst, StepsInPolygon, SlipsInPolygon, SaysLimits, AreNoLimits, IsLimitsSlip, StepsLimits, StepsNodes, SlipsNodes, ReadsAsCert, FirstCertSlip, IsCertOrSlips, IsCertRefusal, IsNoCert};
+ghost use Rattle.srs_file.specs.CertReading.{cert_start, CertSteps, CertSlips, CertEnds, gathers, KeepsHead, limits_in, read_view, StepsFirst, SlipsFirst, StepsInPolygon, SlipsInPolygon, SaysLimits, AreNoLimits, IsLimitsSlip, StepsLimits, StepsNodes, SlipsNodes, ReadsAsCert, FirstCertSlip, IsCertOrSlips, IsCertRefusal, IsNoCert};
 
 use crate::polygon_reader::end;
-use crate::{Outline, Tree};
+use crate::{Node, Outline, Tree};
 use srs_cert::Cert;
 use srs_line::{
     FileErr, LineErr, LineMachine, Slip, never_both, one, one_slip, read_lines, read_once,
@@ -68,46 +68,72 @@ impl CertReader {
         }
     }
 
-    fn first(&mut self, line: &[u8]) -> Result<(), LineErr>
-        ensures ok { OnOk result (StepsFirst self.old line.now self.new) }
+    /// Takes the next line: the node that ends with it, if one does, whose event isn't gathered yet. A refused line leaves what is
+    /// waited for, the polygon and the limits.
+    pub fn advance(&mut self, line: &[u8]) -> Result<Option<Node>, LineErr>
+        requires { ¬ (CertEnds self.old) }
+        ensures ok { IfOk result (λ node. CertSteps self.old line.now (gathers self.new node)) }
+        ensures err { IfErr result (IsSlip (CertSlips self.old line.now)) }
+        ensures bare { self.old.tree.events ≡ [] → self.new.tree.events ≡ [] }
+        ensures head { OnErr result (KeepsHead self.old self.new) }
+    {
+        match self.phase {
+            CertPhase::First => self.first(line),
+            CertPhase::Polygon => self.polygon(line),
+            CertPhase::Nodes => self.node(line),
+            CertPhase::Done => unreachable!(),
+        }
+    }
+
+    fn first(&mut self, line: &[u8]) -> Result<Option<Node>, LineErr>
+        ensures ok { IfOk result (λ node. StepsFirst self.old line.now (gathers self.new node)) }
         ensures err { IfErr result (IsSlip (SlipsFirst line.now)) }
+        ensures bare { self.old.tree.events ≡ [] → self.new.tree.events ≡ [] }
+        ensures kept { OnErr result (self.new ≡ self.old) }
     {
         if one(line, b"srs")? != 1 {
             return Err(LineErr::Slip(Slip::Version, 0));
         }
         self.phase = CertPhase::Polygon;
-        Ok(())
+        Ok(None)
     }
 
-    fn polygon(&mut self, line: &[u8]) -> Result<(), LineErr>
-        ensures ok { OnOk result (StepsInPolygon self.old line.now self.new) }
+    fn polygon(&mut self, line: &[u8]) -> Result<Option<Node>, LineErr>
+        ensures ok { IfOk result (λ node. StepsInPolygon self.old line.now (gathers self.new node)) }
         ensures err { IfErr result (IsSlip (SlipsInPolygon self.old line.now)) }
+        ensures bare { self.old.tree.events ≡ [] → self.new.tree.events ≡ [] }
+        ensures kept { OnErr result (self.new ≡ self.old) }
     {
-        if !self.outline.is_whole() {
-            return self.outline.take(line);
+        if self.outline.is_whole() {
+            return self.limits(line);
         }
-        self.limits(line)
+        self.outline.take(line)?;
+        Ok(None)
     }
 
-    fn limits(&mut self, line: &[u8]) -> Result<(), LineErr>
-        ensures ok { OnOk result (StepsLimits self.old line.now self.new) }
+    fn limits(&mut self, line: &[u8]) -> Result<Option<Node>, LineErr>
+        ensures ok { IfOk result (λ node. StepsLimits self.old line.now (gathers self.new node)) }
         ensures err { IfErr result (IsSlip (λ slip back. IsLimitsSlip line.now slip × (back ≡ 0))) }
+        ensures bare { self.old.tree.events ≡ [] → self.new.tree.events ≡ [] }
+        ensures kept { OnErr result (self.new ≡ self.old) }
     {
         self.tree.plant(limits(line)?)?;
         self.phase = CertPhase::Nodes;
-        Ok(())
+        Ok(None)
     }
 
-    fn node(&mut self, line: &[u8]) -> Result<(), LineErr>
-        ensures ok { OnOk result (StepsNodes self.old line.now self.new) }
+    fn node(&mut self, line: &[u8]) -> Result<Option<Node>, LineErr>
+        ensures ok { IfOk result (λ node. StepsNodes self.old line.now (gathers self.new node)) }
         ensures err { IfErr result (IsSlip (SlipsNodes self.old line.now)) }
+        ensures bare { self.old.tree.events ≡ [] → self.new.tree.events ≡ [] }
+        ensures head { OnErr result (KeepsHead self.old self.new) }
     {
         if !self.tree.is_whole() {
             return self.tree.take(line);
         }
         end(line)?;
         self.phase = CertPhase::Done;
-        Ok(())
+        Ok(None)
     }
 }
 
@@ -125,12 +151,8 @@ impl LineMachine for CertReader {
     }
 
     fn take(&mut self, line: &[u8]) -> Result<(), LineErr> {
-        match self.phase {
-            CertPhase::First => self.first(line),
-            CertPhase::Polygon => self.polygon(line),
-            CertPhase::Nodes => self.node(line),
-            CertPhase::Done => unreachable!(),
-        }
+        let node = self.advance(line)?;
+        self.tree.gather(node)
     }
 }
 

@@ -28,4 +28,4 @@ pub use ring::Ring;
 pub use session_lines::{SessionLines, Stage};
 pub use srs_cert::{Cert, word_of};
 pub use srs_line::{FileErr, Slip};
-pub use tree::Tree;
+pub use tree::{Node, Tree};

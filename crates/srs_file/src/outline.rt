@@ -1,5 +1,5 @@
 // The lines of a polygon, read line by line.
-ghost use Rattle.std.specs.Prelude.{◌≡◌, ◌↔◌, IsTrue, IfErr, OnOk};
+ghost use Rattle.std.specs.Prelude.{◌≡◌, ◌↔◌, IsTrue, IfErr, OnOk, OnErr};
 ghost use Rattle.srs_line.specs.Refusal.{IsSlip};
 ghost use Rattle.srs_file.specs.Outline.{no_outline, IsWholeOutline, TakesOutline, SlipsOutline};
 
@@ -40,11 +40,12 @@ impl Outline {
         self.ring.vertices()
     }
 
-    /// Takes the next line: of the number of vertices, or of a vertex. An `Err` may leave any polygon.
+    /// Takes the next line: of the number of vertices, or of a vertex. An `Err` changes nothing.
     pub fn take(&mut self, line: &[u8]) -> Result<(), LineErr>
         requires { ¬ (IsWholeOutline self.old) }
         ensures ok { OnOk result (TakesOutline self.old line.now self.new) }
         ensures err { IfErr result (IsSlip (SlipsOutline self.old line.now)) }
+        ensures kept { OnErr result (self.new ≡ self.old) }
     {
         if self.opened {
             return self.ring.take(line);

@@ -81,11 +81,12 @@ impl Ring {
         Ok(())
     }
 
-    /// Takes the line of the next vertex; with that of the last one it makes the region. An `Err` may leave any ring.
+    /// Takes the line of the next vertex; with that of the last one it makes the region. An `Err` changes nothing.
     pub fn take(&mut self, line: &[u8]) -> Result<(), LineErr>
         requires { 0 < self.old.left }
         ensures ok { OnOk result (TakesVertex self.old line.now self.new) }
         ensures err { IfErr result (IsSlip (SlipsVertex self.old line.now)) }
+        ensures kept { OnErr result (self.new ≡ self.old) }
     {
         self.add(vertex(line)?)
     }
@@ -95,14 +96,34 @@ impl Ring {
         requires placed { IsPlaced vertex }
         ensures ok { OnOk result (Adds self.old vertex self.new) }
         ensures err { IfErr result (IsSlip (SlipsAdd self.old vertex)) }
+        ensures kept { OnErr result (self.new ≡ self.old) }
     {
+        if self.left == 1 {
+            return self.add_last(vertex);
+        }
         let Ok(()) = self.vertices.push(vertex) else {
             return Err(LineErr::NoMemory);
         };
         self.left -= 1;
-        if self.left == 0 {
-            self.region = Some(enclosed(self.alloc, &self.vertices)?);
-        }
+        Ok(())
+    }
+
+    // With the last vertex the ring has its region.
+    fn add_last(&mut self, vertex: Vertex) -> Result<(), LineErr>
+        requires last { self.old.left ≡ 1 }
+        requires placed { IsPlaced vertex }
+        ensures ok { OnOk result (Adds self.old vertex self.new) }
+        ensures err { IfErr result (IsSlip (SlipsAdd self.old vertex)) }
+        ensures kept { OnErr result (self.new ≡ self.old) }
+    {
+        let mut vertices = Vertices::from_slice(self.alloc, self.vertices.as_slice())?;
+        let Ok(()) = vertices.push(vertex) else {
+            return Err(LineErr::NoMemory);
+        };
+        let region = enclosed(self.alloc, &vertices)?;
+        self.vertices = vertices;
+        self.left = 0;
+        self.region = Some(region);
         Ok(())
     }
 

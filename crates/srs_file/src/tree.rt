@@ -1,10 +1,10 @@
 // The tree of a certificate, read line by line.
-ghost use Rattle.std.specs.Prelude.{◌≡◌, ◌≢◌, ◌↔◌, ◌+◌, ◌<◌, ◌≤◌, ◌++◌, [], ◌∷◌, pos, ℤ, length, IsTrue, IfErr, IfSome, IfNone, OnOk, codes};
+ghost use Rattle.std.specs.Prelude.{◌≡◌, ◌≢◌, ◌↔◌, ◌+◌, ◌<◌, ◌≤◌, ◌++◌, [], ◌∷◌, pos, ℤ, length, Some, IsTrue, IfOk, IfErr, IfSome, IfNone, OnOk, OnErr, codes};
 ghost use Rattle.srs_path.specs.declared.limits.TheConstants.{MOST_DEPTH};
 ghost use Rattle.srs_path.specs.declared.paths.Side.TheVariants.{Ge as AtGe, Lt as AtLt};
 ghost use Rattle.srs_path.specs.declared.outcomes.Cause.{Cause};
 ghost use Rattle.srs_line.specs.Refusal.{IsSlip};
-ghost use Rattle.srs_file.specs.TreeReading.{left_line, no_tree, only_root, TakesOutcome, Divides, SlipsDivide, HasRoom, CutsBy, SlipsCutBy, StepsCut, SlipsCut, StepsIn, SlipsIn, Counts, StepsOut, SlipsOut, StepsLeft, SlipsLeft, StepsNode, SlipsNode, StepsEntry, TakesLine, SlipsLine};
+ghost use Rattle.srs_file.specs.TreeReading.{left_line, no_tree, only_root, gathered, KeepsRest, TakesOutcome, Divides, SlipsDivide, HasRoom, CutsBy, SlipsCutBy, StepsCut, SlipsCut, StepsIn, SlipsIn, Counts, StepsOut, SlipsOut, StepsLeft, SlipsLeft, StepsNode, SlipsNode, StepsEntry, TakesLine, SlipsLine};
 ghost use Rattle.srs_file.specs.Leaf.{SlipsEntry};
 
 use crate::{Events, Leaf, PathStack};
@@ -14,6 +14,13 @@ use srs_path::{Cause, Cycle, Limits, Outcome, Path, Side, Why};
 use srs_text::Nums;
 use srs_tree::Journal;
 use std::alloc::Global;
+
+/// A node whose last line was read: the path of its cell, and the outcome there.
+#[derive(Drop)]
+pub struct Node {
+    pub path: Path,
+    pub outcome: Outcome,
+}
 
 /// A tree while its lines are read, in preorder: its limits, how many cells it has so far, the cells that wait for their
 /// event, the inside leaf at hand, and the events so far.
@@ -44,6 +51,7 @@ impl Tree {
     pub fn plant(&mut self, limits: Limits) -> Result<(), LineErr>
         ensures ok { OnOk result (self.new ≡ only_root limits) }
         ensures err { IfErr result (IsSlip (λ slip back. ⊥)) }
+        ensures kept { OnErr result (self.new ≡ self.old) }
     {
         let alloc = self.events.alloc();
         let mut pending = PathStack::new(alloc);
@@ -73,11 +81,24 @@ impl Tree {
         (self.limits, self.events.into_journal())
     }
 
-    /// Takes the next line: of a witness where one is to come, and else of a node. An `Err` may leave any tree.
-    pub fn take(&mut self, line: &[u8]) -> Result<(), LineErr>
+    /// Appends the event of the node that was read, if one was. An `Err` is want of memory.
+    pub fn gather(&mut self, node: Option<Node>) -> Result<(), LineErr>
+        ensures ok { OnOk result (self.new ≡ gathered self.old node) }
+        ensures err { IfErr result (IsSlip (λ slip back. ⊥)) }
+    {
+        match node {
+            Some(node) => self.events.add(node.path, node.outcome),
+            None => Ok(()),
+        }
+    }
+
+    /// Takes the next line: of a witness where one is to come, and else of a node. It answers the node that ends with it, if one
+    /// does, whose event isn't gathered yet. An `Err` may leave any tree with these limits and events.
+    pub fn take(&mut self, line: &[u8]) -> Result<Option<Node>, LineErr>
         requires { self.old.pending ≢ [] }
-        ensures ok { OnOk result (TakesLine self.old line.now self.new) }
+        ensures ok { IfOk result (λ node. TakesLine self.old line.now (gathered self.new node)) }
         ensures err { IfErr result (IsSlip (SlipsLine self.old line.now)) }
+        ensures rest { KeepsRest self.old self.new }
     {
         if self.leaf.left() > 0 {
             return self.entry(line);
@@ -85,24 +106,26 @@ impl Tree {
         self.node(line)
     }
 
-    fn entry(&mut self, line: &[u8]) -> Result<(), LineErr>
+    fn entry(&mut self, line: &[u8]) -> Result<Option<Node>, LineErr>
         requires some { self.old.pending ≢ [] }
         requires more { 0 < self.old.leaf.left }
-        ensures ok { OnOk result (StepsEntry self.old line.now self.new) }
+        ensures ok { IfOk result (λ node. StepsEntry self.old line.now (gathered self.new node)) }
         ensures err { IfErr result (IsSlip (SlipsEntry self.old.leaf line.now)) }
+        ensures rest { KeepsRest self.old self.new }
     {
         self.leaf.take(line)?;
         if self.leaf.left() > 0 {
-            return Ok(());
+            return Ok(None);
         }
         let ranks = self.leaf.close();
-        self.settle(Outcome::Inside(ranks))
+        Ok(Some(self.settle(Outcome::Inside(ranks))))
     }
 
-    fn node(&mut self, line: &[u8]) -> Result<(), LineErr>
+    fn node(&mut self, line: &[u8]) -> Result<Option<Node>, LineErr>
         requires { self.old.pending ≢ [] }
-        ensures ok { OnOk result (StepsNode self.old line.now self.new) }
+        ensures ok { IfOk result (λ node. StepsNode self.old line.now (gathered self.new node)) }
         ensures err { IfErr result (IsSlip (SlipsNode self.old line.now)) }
+        ensures rest { KeepsRest self.old self.new }
     {
         if has_word(line, b"cut") {
             return self.cut(line);
@@ -119,19 +142,22 @@ impl Tree {
         Err(LineErr::Slip(Slip::Word, 0))
     }
 
-    fn cut(&mut self, line: &[u8]) -> Result<(), LineErr>
+    fn cut(&mut self, line: &[u8]) -> Result<Option<Node>, LineErr>
         requires { self.old.pending ≢ [] }
-        ensures ok { OnOk result (StepsCut self.old line.now self.new) }
+        ensures ok { IfOk result (λ node. StepsCut self.old line.now (gathered self.new node)) }
         ensures err { IfErr result (IsSlip (SlipsCut self.old line.now)) }
+        ensures rest { KeepsRest self.old self.new }
     {
         let (a, b, c) = three(line, b"cut")?;
         self.cut_by(a, b, c)
     }
 
-    fn cut_by(&mut self, a: i64, b: i64, c: i64) -> Result<(), LineErr>
+    fn cut_by(&mut self, a: i64, b: i64, c: i64) -> Result<Option<Node>, LineErr>
         requires { self.old.pending ≢ [] }
-        ensures ok { OnOk result (CutsBy self.old (record { a = a; b = b; c = c }) self.new) }
+        ensures ok { IfOk result (λ node.
+            CutsBy self.old (record { a = a; b = b; c = c }) (gathered self.new node)) }
         ensures err { IfErr result (IsSlip (SlipsCutBy self.old (record { a = a; b = b; c = c }))) }
+        ensures rest { KeepsRest self.old self.new }
     {
         if !self.has_room() {
             return Err(LineErr::Slip(Slip::Count, 0));
@@ -149,11 +175,12 @@ impl Tree {
         most >= 2 && self.cells <= most - 2
     }
 
-    fn divide(&mut self, form: Form) -> Result<(), LineErr>
+    fn divide(&mut self, form: Form) -> Result<Option<Node>, LineErr>
         requires some { self.old.pending ≢ [] }
         requires room { HasRoom self.old }
-        ensures ok { OnOk result (Divides self.old form self.new) }
+        ensures ok { IfOk result (λ node. Divides self.old form (gathered self.new node)) }
         ensures err { IfErr result (IsSlip (SlipsDivide self.old)) }
+        ensures rest { KeepsRest self.old self.new }
     {
         let Some(path) = self.pending.pop() else {
             unreachable!();
@@ -163,24 +190,28 @@ impl Tree {
         }
         self.pending.push(part(&path, Side::Lt))?;
         self.pending.push(part(&path, Side::Ge))?;
-        self.events.add(path, Outcome::Cut(form))?;
         self.cells += 2;
-        Ok(())
+        Ok(Some(Node {
+            path,
+            outcome: Outcome::Cut(form),
+        }))
     }
 
-    fn inside(&mut self, line: &[u8]) -> Result<(), LineErr>
-        ensures ok { OnOk result (StepsIn self.old line.now self.new) }
+    fn inside(&mut self, line: &[u8]) -> Result<Option<Node>, LineErr>
+        ensures ok { IfOk result (λ node. StepsIn self.old line.now (gathered self.new node)) }
         ensures err { IfErr result (IsSlip (SlipsIn self.old line.now)) }
+        ensures rest { KeepsRest self.old self.new }
     {
         let n = count_of(line, b"in", 1, self.limits.wits(), Slip::Count)?;
         self.leaf.open(n);
-        Ok(())
+        Ok(None)
     }
 
-    fn outside(&mut self, line: &[u8]) -> Result<(), LineErr>
+    fn outside(&mut self, line: &[u8]) -> Result<Option<Node>, LineErr>
         requires { self.old.pending ≢ [] }
-        ensures ok { OnOk result (StepsOut self.old line.now self.new) }
+        ensures ok { IfOk result (λ node. StepsOut self.old line.now (gathered self.new node)) }
         ensures err { IfErr result (IsSlip (SlipsOut self.old line.now)) }
+        ensures rest { KeepsRest self.old self.new }
     {
         let mut entries = Nums::new(self.events.alloc());
         let n = numbers_of(line, b"out", &mut entries)?;
@@ -188,30 +219,31 @@ impl Tree {
             return Err(LineErr::Slip(Slip::Count, 0));
         }
         match Cycle::of(entries) {
-            Some(cycle) => self.settle(Outcome::Outside(cycle)),
+            Some(cycle) => Ok(Some(self.settle(Outcome::Outside(cycle)))),
             None => Err(LineErr::Slip(Slip::Range, 0)),
         }
     }
 
-    fn left(&mut self, line: &[u8]) -> Result<(), LineErr>
+    fn left(&mut self, line: &[u8]) -> Result<Option<Node>, LineErr>
         requires { self.old.pending ≢ [] }
-        ensures ok { OnOk result (StepsLeft self.old line.now self.new) }
+        ensures ok { IfOk result (λ node. StepsLeft self.old line.now (gathered self.new node)) }
         ensures err { IfErr result (IsSlip (SlipsLeft line.now)) }
+        ensures rest { KeepsRest self.old self.new }
     {
         match cause_of(line) {
-            Some(cause) => self.settle(Outcome::Left(cause)),
+            Some(cause) => Ok(Some(self.settle(Outcome::Left(cause)))),
             None => Err(LineErr::Slip(Slip::Word, 0)),
         }
     }
 
     // The next cell has the outcome, and isn't cut.
-    fn settle(&mut self, outcome: Outcome) -> Result<(), LineErr>
+    fn settle(&mut self, outcome: Outcome) -> Node
         requires { self.old.pending ≢ [] }
-        ensures ok { OnOk result (TakesOutcome self.old outcome self.new) }
-        ensures err { IfErr result (IsSlip (λ slip back. ⊥)) }
+        ensures node { TakesOutcome self.old outcome (gathered self.new (Some result)) }
+        ensures rest { KeepsRest self.old self.new }
     {
         match self.pending.pop() {
-            Some(path) => self.events.add(path, outcome),
+            Some(path) => Node { path, outcome },
             None => unreachable!(),
         }
     }

@@ -1,9 +1,10 @@
 -- Of a text, the good lines at its front are determined, and so is what follows them.
 use Rattle.std.proofs.Common.{◌≡◌, ◌≢◌, ℕ, suc, List, [], ◌∷◌, ◌++◌, length, refl, sym, ap, ◌∙◌, inl, inr, append_assoc}
-use Rattle.std.proofs.lemmas.List.Elements.{All-head, All-tail}
+use Rattle.std.proofs.lemmas.List.Elements.{All-nil, All-head, All-tail}
 use Rattle.srs_text.specs.Line.{HasNoLf, IsLineOf}
 use Rattle.srs_line.specs.Machine.{lines_text, Runs, Reaches, IsWrong, SlipsAt, IsRead, IsExact}
 use Rattle.srs_line.specs.declared.slip.Slip.{Slip}
+use Rattle.srs_line.specs.declared.slip.Slip.TheVariants.{Missing}
 
 -- The first line is determined.
 pub line_once : (x y a b : List ℕ) → x ++ 10 ∷ a ≡ y ++ 10 ∷ b → HasNoLf x → HasNoLf y → (x ≡ y) × (a ≡ b)
@@ -95,3 +96,16 @@ module _ {S : Type 0} (Steps : S → List ℕ → S → Type 0) (Slips : S → L
       let r = reached_once Steps exact.steps_once start f.state g.state text f.count g.count f.rest g.rest f.good g.good (stuck_wrong f.state f.rest d f.back f.wrong) (stuck_wrong g.state g.rest e g.back g.wrong) in
       let w = wrong_once g.state g.rest d e f.back g.back (rw (r.1, r.2) at f.wrong) g.wrong in
       (rw (f.line_is, r.0, w.1, ← g.line_is) refl, w.0)
+
+  none_follows : (s : S) → Stuck Steps exact.steps_once s []
+  none_follows s line more t l p = no_line [] line more (All-nil (λ c. c ≢ 10)) l
+
+  -- a text that is all good lines slips at most in that a line is wanted
+  pub only_missing : (start s : S) (text : List ℕ) (count line : ℕ) (slip : Slip) → Reaches Steps start text count s [] → SlipsAt Steps Slips IsEnd start text line slip → slip ≡ Missing
+  only_missing start s text count line slip g f =
+      let r = reached_once Steps exact.steps_once start s f.state text count f.count [] f.rest g f.good (none_follows s) (stuck_wrong f.state f.rest slip f.back f.wrong) in
+      let clear : HasNoLf f.rest = rw (← r.2) (All-nil (λ c. c ≢ 10)) in
+      elim f.wrong [
+        | inl w ↦ absurd (w.1 (sym r.2))
+        | inr w ↦ elim w [ inl v ↦ v.2 | inr v ↦ absurd (no_line f.rest v.1 v.2 clear v.3) ]
+      ]

@@ -32,6 +32,11 @@ abbrev pub Gives : LineFeedView → List ℕ → Option (List ℕ) → Fed → L
 Gives old bytes left (Line line) new = IsLineOf (old.held ++ bytes) line.now new.held
 Gives old bytes left (End rest) new = (old.held ++ bytes ≡ rest.now) × HasNoLf rest.now × (new.held ≡ rest.now) × IsAtEnd left
 
+-- what is given has no LF
+abbrev pub IsClear : Fed → Type 0
+IsClear (Line line) = HasNoLf line.now
+IsClear (End rest) = HasNoLf rest.now
+
 -- what a feed that hasn't failed is after a call: the bytes that the source lost were taken, or it has failed
 abbrev pub FeedsOn : LineFeedView → Option (List ℕ) → Option (List ℕ) → Result Fed ReadErr → LineFeedView → Type 0
 FeedsOn old before after (Ok fed) new = (bytes : List ℕ) × Consumes before after bytes × Takes old bytes new × Gives old bytes after fed new

@@ -114,7 +114,7 @@ impl LineFeed {
     ghost use Rattle.std.specs.Borrow.{sem};
     ghost use Rattle.std.specs.Io.BufRead.{Rests};
     ghost use Rattle.srs_text.specs.contracts.feeds.LineFeed.{the_row};
-    ghost use Rattle.srs_text.specs.Feeds.{Feeds};
+    ghost use Rattle.srs_text.specs.Feeds.{Feeds, IsClear};
 
     /// A feed that takes at most `limit` bytes, which is at most 2^31. It has taken nothing.
     pub fn new(alloc: Global, limit: u64) -> Result<LineFeed, NoMemory>
@@ -137,6 +137,7 @@ impl LineFeed {
     pub fn next<'f, S: Source>(&'f mut self, source: &mut S) -> Result<Fed<'f>, ReadErr>
         ensures* after { sem 𝓛 (Rests the_row self.entry
             (Feeds self.old (S.left source.old) (S.left source.new) result)) }
+        ensures clear { IfOk result IsClear }
         ensures again { IfSome self.old.failed
             (λ error. (result ≡ Err error) × (source.new ≡ source.old)) }
         ensures long { IsNone self.old.failed → IsErrOf result ReadErr.TooLong →
