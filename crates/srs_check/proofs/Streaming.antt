@@ -19,9 +19,9 @@ use Rattle.srs_file.specs.CertReading.{IsCertRefusal}
 use Rattle.srs_file.proofs.CertRuns.{no_cert}
 use Rattle.srs_check.specs.declared.faults.Checked.{Checked}
 use Rattle.srs_check.specs.declared.line_check.LineCheck.{LineCheck}
-use Rattle.srs_check.specs.LineChecks.{HasTaken, IsAnswered}
+use Rattle.srs_check.specs.LineChecks.{HasTaken, ChecksText}
 use Rattle.srs_check.specs.declared.stream.CheckErr.{CheckErr}
-use Rattle.srs_check.specs.Streams.{TakesAll, ChecksAll, Slips, Stops, IsReadErr, IsFileErr}
+use Rattle.srs_check.specs.Streams.{TakesAll, ChecksAll, HasSlip, Stops, IsReadErr, IsFileErr}
 use Rattle.srs_check.proofs.LineSteps.{text_more}
 
 -- what was taken so far: these lines were checked, and the rest is held
@@ -104,10 +104,10 @@ module _ (before now after : Option (List ℕ)) (limit : ℕ) (feed : LineFeedVi
   fed_more next more lost takes = (s.bytes ++ more, all_bytes more lost, omega (arith, takes.taken, takes.within, takes.limit, length-append s.bytes more, s.count, s.limit_is))
 
 -- the first slip of the text
-pub slips_all : (before after : Option (List ℕ)) (limit : ℕ) (text : List ℕ) (line : ℕ) (slip : Slip) → TakesAll before after limit text → IsCertRefusal text (At line slip) → Slips before after limit line slip
+pub slips_all : (before after : Option (List ℕ)) (limit : ℕ) (text : List ℕ) (line : ℕ) (slip : Slip) → TakesAll before after limit text → IsCertRefusal text (At line slip) → HasSlip before after limit line slip
 slips_all before after limit text line slip all first = record { text = text; all = all; first = first; no_certificate = no_cert text (At line slip) first }
 
-pub checks_all : (before after : Option (List ℕ)) (limit : ℕ) (text : List ℕ) (answer : Checked) → TakesAll before after limit text → IsAnswered text answer → ChecksAll before after limit answer
+pub checks_all : (before after : Option (List ℕ)) (limit : ℕ) (text : List ℕ) (answer : Checked) → TakesAll before after limit text → ChecksText text answer → ChecksAll before after limit answer
 checks_all before after limit text answer all answered = record { text = text; all = all; answered = answered }
 
 -- what a feed that hasn't failed is after a call

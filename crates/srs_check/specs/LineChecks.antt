@@ -70,7 +70,7 @@ pub record TakesNode (check : LineCheck) (lines : List (List ℕ)) (line : List 
   pub walks : WalksWith before check.walk
 
 -- the text is that of a certificate, and the answer is that of its check
-pub record IsAnswered (text : List ℕ) (answer : Checked) : Type 0 where
+pub record ChecksText (text : List ℕ) (answer : Checked) : Type 0 where
   pub certificate : CertView
   pub spelled : SpellsCertificate text certificate
   pub checked : IsChecked certificate answer

@@ -14,7 +14,7 @@ use Rattle.srs_file.specs.CertReading.{FirstCertSlip}
 use Rattle.srs_check.specs.declared.faults.Checked.{Checked}
 use Rattle.srs_check.specs.declared.stream.CheckErr.{CheckErr}
 use Rattle.srs_check.specs.declared.stream.CheckErr.TheVariants.{Read, At, NoMemory}
-use Rattle.srs_check.specs.LineChecks.{IsAnswered}
+use Rattle.srs_check.specs.LineChecks.{ChecksText}
 
 -- the source was read to its end, and gave this text, no longer than the limit
 pub record TakesAll (left left_after : Option (List ℕ)) (limit : ℕ) (text : List ℕ) : Type 0 where
@@ -26,10 +26,10 @@ pub record TakesAll (left left_after : Option (List ℕ)) (limit : ℕ) (text : 
 pub record ChecksAll (left left_after : Option (List ℕ)) (limit : ℕ) (answer : Checked) : Type 0 where
   pub text : List ℕ
   pub all : TakesAll left left_after limit text
-  pub answered : IsAnswered text answer
+  pub answered : ChecksText text answer
 
 -- the source gave a text with this first slip, which is that of no certificate
-pub record Slips (left left_after : Option (List ℕ)) (limit line : ℕ) (slip : Slip) : Type 0 where
+pub record HasSlip (left left_after : Option (List ℕ)) (limit line : ℕ) (slip : Slip) : Type 0 where
   pub text : List ℕ
   pub all : TakesAll left left_after limit text
   pub first : FirstCertSlip text line slip
@@ -52,5 +52,5 @@ abbrev pub Stops : Option (List ℕ) → Option (List ℕ) → ℕ → ℕ → �
 Stops left left_after faults faults_after limit (Read reads.Fault) = Rose faults faults_after × TookUpTo left left_after limit
 Stops left left_after faults faults_after limit (Read reads.TooLong) = TookJust left left_after (limit + 1)
 Stops left left_after faults faults_after limit (Read reads.NoMemory) = ⊥
-Stops left left_after faults faults_after limit (At line slip) = Slips left left_after limit line slip
+Stops left left_after faults faults_after limit (At line slip) = HasSlip left left_after limit line slip
 Stops left left_after faults faults_after limit NoMemory = TookUpTo left left_after (limit + 1)

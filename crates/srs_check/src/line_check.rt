@@ -8,7 +8,7 @@ ghost use Rattle.srs_check.specs.Walks.{HasCome};
 ghost use Rattle.srs_line.specs.Machine.{lines_text};
 ghost use Rattle.srs_file.specs.declared.cert_feed.NodeAt.{NodeAt};
 ghost use Rattle.srs_file.specs.CertReading.{IsCertRefusal};
-ghost use Rattle.srs_check.specs.LineChecks.{GoesOn, WalksWith, HasTaken, TakesNode, GoodSoFar, IsAnswered};
+ghost use Rattle.srs_check.specs.LineChecks.{GoesOn, WalksWith, HasTaken, TakesNode, GoodSoFar, ChecksText};
 
 use crate::Checked;
 use crate::checks::polygon_cell;
@@ -57,7 +57,7 @@ impl LineCheck {
         requires plain { HasNoLf rest.now }
         requires some { (lines : List (List ℕ)) × HasTaken self lines }
         ensures accepted { IfOk result (λ answer. (lines : List (List ℕ)) → HasTaken self lines →
-            IsAnswered (lines_text lines ++ rest.now) answer) }
+            ChecksText (lines_text lines ++ rest.now) answer) }
         ensures refused { IfErr result (λ error. (lines : List (List ℕ)) → HasTaken self lines →
             IsCertRefusal (lines_text lines ++ rest.now) error) }
     {
