@@ -21,16 +21,17 @@ use srs_tree::{Pending, TreeBuilder, Version};
 use std::alloc::Global;
 use std::sync::Arc;
 
-/// What a build answers: each node proves itself, with the version of the tree and the counts; or the line and the fault
-/// of the first node that doesn't.
+/// What a build answers: each node proves itself, with the version of the tree and the counts; or
+/// the line and the fault of the first node that doesn't.
 #[derive(Drop)]
 pub enum Built {
     Valid(Version, Counts),
     Bad(u32, Fault),
 }
 
-/// The version that has what the certificate has, but each cell that is left without its cause, which no check tests.
-/// `Bad` comes as for `check`. It is one walk: each node is tested, and then entered. An `Err` is want of memory.
+/// The version that has what the certificate has, but each cell that is left without its cause,
+/// which no check tests. `Bad` comes as for `check`. It is one walk: each node is tested, and then
+/// entered. An `Err` is want of memory.
 pub fn build(alloc: Global, c: &Cert) -> Result<Built, NoMemory>
     ensures { IfOk result (IsBuiltFrom c.now) }
 {
@@ -45,7 +46,13 @@ pub fn build(alloc: Global, c: &Cert) -> Result<Built, NoMemory>
         };
         let event = c.events().get(i as u64);
         let depth = event.path.len();
-        if let Err(fault) = check_node(&limits, &tally.rows, &next.cell, depth, event.outcome.as_ref()) {
+        if let Err(fault) = check_node(
+            &limits,
+            &tally.rows,
+            &next.cell,
+            depth,
+            event.outcome.as_ref(),
+        ) {
             return Ok(Built::Bad(c.line(i), fault));
         }
         if let Some((ge, lt)) = enter(alloc, &mut tree, event, next.place, &next.cell)? {
@@ -55,7 +62,8 @@ pub fn build(alloc: Global, c: &Cert) -> Result<Built, NoMemory>
     Ok(Built::Valid(tree.finish(), tally.counts))
 }
 
-// The event comes to the cell at its path, which is open and stands at this place, and the cells that it makes are given.
+// The event comes to the cell at its path, which is open and stands at this place, and the cells
+// that it makes are given.
 fn enter(
     alloc: Global,
     tree: &mut TreeBuilder,

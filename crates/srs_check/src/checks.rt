@@ -14,10 +14,11 @@ use srs_num::NoMemory;
 use srs_plane::{PolyErr, Vertex, polygon};
 use std::alloc::Global;
 
-/// Tests each node in preorder. `Valid` exactly where each proves itself; then the leaves partition the polygon, each cut
-/// divides its cell, and each leaf inside or outside is sound. `Bad` has the line and the fault of the first node that
-/// doesn't; it doesn't come where the events are those of a whole history. Of a node that is left it says that the budget
-/// is spent or that there is no grid line, and nothing of why its cell stays open. An `Err` is want of memory.
+/// Tests each node in preorder. `Valid` exactly where each proves itself; then the leaves partition
+/// the polygon, each cut divides its cell, and each leaf inside or outside is sound. `Bad` has the
+/// line and the fault of the first node that doesn't; it doesn't come where the events are those of
+/// a whole history. Of a node that is left it says that the budget is spent or that there is no
+/// grid line, and nothing of why its cell stays open. An `Err` is want of memory.
 pub fn check(alloc: Global, c: &Cert) -> Result<Checked, NoMemory>
     ensures checked { IfOk result (IsChecked c.now) }
     ensures certified { IfOk result (Certifies c.now) }

@@ -28,8 +28,8 @@ pub enum Fault {
     NoBudget,
 }
 
-/// What a check answers: each node proves itself, with the counts; or the line and the fault of the first node that
-/// doesn't.
+/// What a check answers: each node proves itself, with the counts; or the line and the fault of the
+/// first node that doesn't.
 #[derive(Clone, Copy, Debug, PartialEq, Eq, Drop)]
 pub enum Checked {
     Valid(Counts),

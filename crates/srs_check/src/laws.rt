@@ -9,8 +9,9 @@ pub fn whole_certificates()
     ensures { WholeIsProved }
 {}
 
-/// Of a certificate that `check` calls valid: no rational point of a leaf that is outside is finite, and each one of a leaf that
-/// is inside is. So a curve through outside leaves separates the finite points on its two sides.
+/// Of a certificate that `check` calls valid: no rational point of a leaf that is outside is
+/// finite, and each one of a leaf that is inside is. So a curve through outside leaves separates
+/// the finite points on its two sides.
 pub fn separates()
     ensures { (c : CertView) → IsCertified c → Separates c }
 {}

@@ -1,5 +1,6 @@
-//! The checker of certificates: each node shows by itself what it claims, and is tested in preorder. It stands on cells,
-//! their cuts and their bounds, and on nothing that finds witnesses, cycles or outcomes.
+//! The checker of certificates: each node shows by itself what it claims, and is tested in
+//! preorder. It stands on cells, their cuts and their bounds, and on nothing that finds witnesses,
+//! cycles or outcomes.
 #![tactic(auto)]
 
 mod builds;

@@ -18,7 +18,8 @@ use srs_num::NoMemory;
 use srs_plane::Vertex;
 use std::alloc::Global;
 
-// A reader of the text, and the walk over the nodes that were read, once there is one. After a slip no node comes any more.
+// A reader of the text, and the walk over the nodes that were read, once there is one. After a slip
+// no node comes any more.
 #[derive(Drop)]
 pub(crate) struct LineCheck {
     feed: CertFeed,
@@ -64,9 +65,7 @@ impl LineCheck {
         let limits = self.feed.limits();
         self.feed.end(rest)?;
         // A certificate has limits and a node.
-        let Some(limits) = limits else {
-            unreachable!()
-        };
+        let Some(limits) = limits else { unreachable!() };
         let Some(walk) = self.walk else {
             unreachable!()
         };

@@ -1,11 +1,13 @@
 // The list of an inside leaf.
-ghost use Rattle.std.specs.Prelude.{◌≡◌, ◌≢◌, ◌<◌, ◌≤◌, ◌<ℤ◌, ◌↔◌, ℕ, ℤ, length, slice_get, Some, IfErr, IsTrue, OnOk};
+ghost use Rattle.std.specs.Prelude.{◌≡◌, ◌≢◌, ◌<◌, ◌≤◌, ◌<ℤ◌, ◌↔◌, ℕ, ℤ, length, slice_get, Some};
+ghost use Rattle.std.specs.Prelude.{IfErr, IsTrue, OnOk};
 ghost use Rattle.srs_num.specs.declared.pairs.V2.{V2};
 ghost use Rattle.srs_map.specs.Step.{IsNarrow, origin};
 ghost use Rattle.srs_cell.specs.Moves.{LeadsTo, LeadsBackTo, AreMoves};
 ghost use Rattle.srs_path.specs.Lists.{IsRankList};
 ghost use Rattle.srs_check.specs.declared.faults.Fault.TheVariants.{NoUnit, NotClosed, NoFall};
-ghost use Rattle.srs_check.specs.Listed.{IsListed, IsBelow, ListsUnits, IsClosedAt, ProvesInside, IsFirstMissing, IsFaultAt, IsUnitFault, IsInsideFault};
+ghost use Rattle.srs_check.specs.Listed.{IsListed, IsBelow, ListsUnits, IsClosedAt, ProvesInside};
+ghost use Rattle.srs_check.specs.Listed.{IsFirstMissing, IsFaultAt, IsUnitFault, IsInsideFault};
 
 use crate::Fault;
 use crate::places::{place_for, rank_at};
@@ -14,9 +16,9 @@ use srs_map::is_origin;
 use srs_num::V2;
 use srs_path::Ranks;
 
-// Whether the list shows each point of the cell finite, by Brunotte's argument (Akiyama, Borbély, Brunotte, Pethő,
-// Thuswaldner 2005): it may list more pairs than the witnesses. Each interval of links is walked only as far as it is
-// listed.
+// Whether the list shows each point of the cell finite, by Brunotte's argument (Akiyama, Borbély,
+// Brunotte, Pethő, Thuswaldner 2005): it may list more pairs than the witnesses. Each interval of
+// links is walked only as far as it is listed.
 pub(crate) fn check_inside(cell: &Cell, ranks: &Ranks) -> Result<(), Fault>
     ensures ok { OnOk result (ProvesInside cell.now ranks.now) }
     ensures err { IfErr result (IsInsideFault cell.now ranks.now) }
@@ -49,7 +51,8 @@ fn check_unit(ranks: &Ranks, w: V2) -> Result<(), Fault>
     }
 }
 
-// The links of the pair at the place `i`: first its steps, then its mirrored steps. Where nothing is wrong, both are seen at once.
+// The links of the pair at the place `i`: first its steps, then its mirrored steps. Where nothing
+// is wrong, both are seen at once.
 fn check_entry(cell: &Cell, ranks: &Ranks, i: u32) -> Result<(), Fault>
     requires there { i < length ranks.now }
     requires list { IsRankList ranks.now }
@@ -67,7 +70,8 @@ fn check_entry(cell: &Cell, ranks: &Ranks, i: u32) -> Result<(), Fault>
     check_back(cell, ranks, w)
 }
 
-// Whether the entry has no fault. Both links of `w` lead to one span of pairs, and only to the least of them may no step lead.
+// Whether the entry has no fault. Both links of `w` lead to one span of pairs, and only to the
+// least of them may no step lead.
 fn is_closed(cell: &Cell, ranks: &Ranks, w: V2, rank: u32) -> bool
     requires { IsNarrow w }
     ensures { IsTrue result → IsClosedAt cell.now ranks.now (w, rank) }

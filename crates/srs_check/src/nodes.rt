@@ -22,8 +22,8 @@ use srs_num::{Form, NoMemory};
 use srs_path::{Cause, Cycle, Limits, Outcome, Ranks};
 use std::alloc::Global;
 
-// What the test of a node tells: a leaf that proves itself; the two parts of a cut; a leaf that proves itself where the
-// number of cells is spent, which all nodes decide; or a fault.
+// What the test of a node tells: a leaf that proves itself; the two parts of a cut; a leaf that
+// proves itself where the number of cells is spent, which all nodes decide; or a fault.
 #[derive(Drop)]
 pub(crate) enum Tested {
     Leaf,
@@ -90,7 +90,8 @@ fn test_left(limits: &Limits, cell: &Cell, depth: u32, cause: Cause) -> Tested
     }
 }
 
-// Whether a node of this depth, which has this cell, proves itself among the nodes that were counted. No part is made.
+// Whether a node of this depth, which has this cell, proves itself among the nodes that were
+// counted. No part is made.
 pub(crate) fn check_node(
     limits: &Limits,
     rows: &Rows,

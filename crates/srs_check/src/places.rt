@@ -1,5 +1,6 @@
 // Where pairs stand in the list of an inside leaf.
-ghost use Rattle.std.specs.Prelude.{◌≡◌, ◌≤◌, ◌<◌, ◌+◌, ◌^◌, pos, ◌+ℤ◌, ◌↔◌, length, Contains, IsTrue, IsSome, IfSome, IfNone};
+ghost use Rattle.std.specs.Prelude.{◌≡◌, ◌≤◌, ◌<◌, ◌+◌, ◌^◌, pos, ◌+ℤ◌, ◌↔◌, length, Contains};
+ghost use Rattle.std.specs.Prelude.{IsTrue, IsSome, IfSome, IfNone};
 ghost use Rattle.srs_num.specs.Points.{IsWithin};
 ghost use Rattle.srs_map.specs.Step.{pair};
 ghost use Rattle.srs_path.specs.Core.{Precedes};
@@ -41,7 +42,8 @@ pub(crate) fn place_for(ranks: &Ranks, w: V2) -> u32
     low
 }
 
-// The rank of the pair, if it is listed: then it stands at this place, and the next pair with its first entry at the next.
+// The rank of the pair, if it is listed: then it stands at this place, and the next pair with its
+// first entry at the next.
 pub(crate) fn rank_at(ranks: &Ranks, place: u32, w: V2) -> Option<u32>
     requires { IsPlaceFor ranks.now w place }
     ensures some { IfSome result (λ n. Contains ranks.now (w, n)) }

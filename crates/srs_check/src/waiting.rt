@@ -6,8 +6,9 @@ use smallvec::SmallVec;
 use std::alloc::Global;
 use std::marker::Model;
 
-// The Ge part of the last cut, if its node is the next one, and the parts that come after it, the first of them last. There
-// are never more of them than a path has sides, so they take no memory beside their places.
+// The Ge part of the last cut, if its node is the next one, and the parts that come after it, the
+// first of them last. There are never more of them than a path has sides, so they take no memory
+// beside their places.
 #[derive(Drop)]
 pub(crate) struct Waiting<T> {
     next: Option<T>,

@@ -17,9 +17,9 @@ use srs_num::NoMemory;
 use srs_path::{Limits, Outcome};
 use std::alloc::Global;
 
-// What is known of a certificate some nodes of which were met. A node is tested as it comes, but for one thing: whether the
-// number of cells is spent is known once all nodes are counted. So of the leaves that are left for that the first of each
-// depth is kept.
+// What is known of a certificate some nodes of which were met. A node is tested as it comes, but
+// for one thing: whether the number of cells is spent is known once all nodes are counted. So of
+// the leaves that are left for that the first of each depth is kept.
 #[derive(Drop)]
 pub(crate) struct Walk {
     // The cells of the nodes to come, until a node fails.

@@ -1,5 +1,5 @@
-//! Worked examples of the check that reads line by line: sources that give a byte a call, two, and all at once; what goes
-//! before what.
+//! Worked examples of the check that reads line by line: sources that give a byte a call, two, and
+//! all at once; what goes before what.
 #![tactic(auto)]
 
 #[cfg(test)]

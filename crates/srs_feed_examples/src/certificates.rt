@@ -44,7 +44,8 @@ fn nodes_of_a_certificate(rt: HostRuntime) -> Result<(), Fail> {
     Ok(())
 }
 
-// What stands in place of which lines, the line and the slip that answer it, and how many nodes were told before.
+// What stands in place of which lines, the line and the slip that answer it, and how many nodes
+// were told before.
 type Row = (&'static [(usize, &'static str)], u32, Slip, usize);
 
 const BROKEN_TEXTS: [Row; 9] = [
@@ -76,8 +77,8 @@ fn broken_certificates(rt: HostRuntime) -> Result<(), Fail> {
     Ok(())
 }
 
-// How many vertices a feed shows, and whether it shows limits, after so many lines of the text; and what it answers to one
-// more.
+// How many vertices a feed shows, and whether it shows limits, after so many lines of the text; and
+// what it answers to one more.
 fn shown(
     alloc: Global,
     text: &str,
@@ -96,7 +97,11 @@ fn shown(
     if let Ok(Fed::Line(line)) = lines.next(&mut source) {
         answer = feed.line(line).err();
     }
-    Ok((before, answer, (feed.vertices().len(), feed.limits().is_some())))
+    Ok((
+        before,
+        answer,
+        (feed.vertices().len(), feed.limits().is_some()),
+    ))
 }
 
 #[test]

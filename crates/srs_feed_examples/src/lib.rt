@@ -1,5 +1,5 @@
-//! Worked examples of sources that are read line by line, and of certificates that are fed their lines: each answer is
-//! compared with a value from outside. A table a subject.
+//! Worked examples of sources that are read line by line, and of certificates that are fed their
+//! lines: each answer is compared with a value from outside. A table a subject.
 #![tactic(auto)]
 
 #[cfg(test)]

@@ -99,8 +99,8 @@ fn limits(rt: HostRuntime) -> Result<(), Fail> {
     Ok(())
 }
 
-// What the first so many calls of a feed answer, where one read fails: 1 for a line, 2 for the end, 3 for a fault; and
-// how many bytes are left.
+// What the first so many calls of a feed answer, where one read fails: 1 for a line, 2 for the end,
+// 3 for a fault; and how many bytes are left.
 fn answers(alloc: Global, text: &[u8], fail: i64) -> Result<([u8; 3], usize), Fail> {
     let mut source = source_of(alloc, text, 2, fail)?;
     let mut feed = LineFeed::new(alloc, 100)?;

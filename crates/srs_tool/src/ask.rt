@@ -1,7 +1,8 @@
 // The command `ask`.
 ghost use Rattle.std.specs.Prelude.{◌≡◌, ◌≤◌, ◌<◌, ◌^◌, ◌++◌, length, IfOk, OnOk};
 ghost use Rattle.srs_plane.specs.Polygons.{region_of};
-ghost use Rattle.srs_tree.specs.declared.queries.Query.TheVariants.{Point as AsksPoint, Polygon as AsksPolygon};
+ghost use Rattle.srs_tree.specs.declared.queries.Query.TheVariants.{Point as AsksPoint};
+ghost use Rattle.srs_tree.specs.declared.queries.Query.TheVariants.{Polygon as AsksPolygon};
 ghost use Rattle.srs_tree.specs.Questions.{IsAskable};
 ghost use Rattle.srs_tree.specs.Tree.{outcome_at};
 ghost use Rattle.srs_tree.specs.Answers.{Answers, reply_of, reply_by};
@@ -28,8 +29,8 @@ use std::alloc::Global;
 use std::marker::Brand;
 use std::sync::ledger::{Blank, Ledger};
 
-/// What is said to the questions that the input asks of its certificate, or its first fault, or the refusal of the input. An
-/// `Err` is want of memory.
+/// What is said to the questions that the input asks of its certificate, or its first fault, or the
+/// refusal of the input. An `Err` is want of memory.
 pub fn ask(alloc: Global, input: &[u8]) -> Result<Output, NoMemory>
     requires { length input.now ≤ 2 ^ 27 }
     ensures { IfOk result (λ o. Owes Ask input.now o.status o.text) }
@@ -51,7 +52,8 @@ pub fn ask(alloc: Global, input: &[u8]) -> Result<Output, NoMemory>
     }
 }
 
-// The lines of what is said to the questions, with the version of the certificate. An `Err` is want of memory.
+// The lines of what is said to the questions, with the version of the certificate. An `Err` is want
+// of memory.
 fn replies(
     alloc: Global,
     cert: &Cert,

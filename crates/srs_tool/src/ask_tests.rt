@@ -10,8 +10,8 @@ const SPLIT: &str =
 const OPEN: &str =
     "srs 1\npolygon 3\nge 0 0 1\nge 1 0 8\nge 0 1 8\nlimits 0 1 16\nleft memory\nend\n";
 
-// Questions behind the split triangle: points at corners, on edges, on the lines of cuts and beside them; polygons that touch
-// a leaf at a point, or would without an open edge; orbits.
+// Questions behind the split triangle: points at corners, on edges, on the lines of cuts and beside
+// them; polygons that touch a leaf at a point, or would without an open edge; orbits.
 const ASKED: [(&str, &str); 4] = [
     (
         "point 1 -1 16\norbit 1 -1 4 1 1 100\norbit -1 -1 2 1 1 100\nend\n",
@@ -28,8 +28,8 @@ const ASKED: [(&str, &str); 4] = [
     ),
 ];
 
-// Whole inputs: points with each cause, on edges that are left out; polygons that meet one kind, some, or all; orbits with
-// each end, and with as few steps as it takes and one less.
+// Whole inputs: points with each cause, on edges that are left out; polygons that meet one kind,
+// some, or all; orbits with each end, and with as few steps as it takes and one less.
 const OTHERS: [(&str, &str); 9] = [
     (
         "srs 1\npolygon 3\ngt 0 0 1\ngt 1 0 8\ngt 0 1 8\nlimits 0 1 16\nin 9\nw -1 -1 4\nw -1 0 3\nw -1 1 3\nw 0 -1 4\nw 0 0 0\nw 0 1 2\nw 1 -1 4\nw 1 0 1\nw 1 1 2\nend\npoint 0 0 1\npoint 1 1 32\nend\n",

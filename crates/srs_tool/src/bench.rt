@@ -1,12 +1,14 @@
 // The command `bench`.
-ghost use Rattle.std.specs.Prelude.{◌≡◌, ◌+◌, ◌≤◌, ◌<◌, ◌++◌, [], length, cond, false, IsTrue, ◌↔◌, IfOk, OnOk};
+ghost use Rattle.std.specs.Prelude.{◌≡◌, ◌+◌, ◌≤◌, ◌<◌, ◌++◌, [], length, cond, false, IsTrue, ◌↔◌};
+ghost use Rattle.std.specs.Prelude.{IfOk, OnOk};
 ghost use Rattle.srs_plane.specs.Polygons.{IsPolygon, region_of};
 ghost use Rattle.srs_path.specs.declared.outcomes.Outcome.TheVariants.{Left};
 ghost use Rattle.srs_path.specs.declared.outcomes.Cause.TheVariants.{Memory};
 ghost use Rattle.srs_tree.specs.Snapshots.{tree_of};
 ghost use Rattle.srs_tree.specs.Answers.{reply_of, kind_of};
 ghost use Rattle.srs_tool.specs.declared.commands.Command.TheVariants.{Bench};
-ghost use Rattle.srs_tool.specs.Benches.{bench_limits, IsCountedPlan, CountsAnswers, answers_line, bench_text, IsBenchText};
+ghost use Rattle.srs_tool.specs.Benches.{bench_limits, IsCountedPlan, CountsAnswers, answers_line};
+ghost use Rattle.srs_tool.specs.Benches.{bench_text, IsBenchText};
 ghost use Rattle.srs_tool.specs.Plans.{HasNoMemory};
 ghost use Rattle.srs_tool.specs.Words.{IsSampleSize};
 ghost use Rattle.srs_tool.specs.Output.{Owes};

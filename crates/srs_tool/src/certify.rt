@@ -20,7 +20,8 @@ use srs_text::Bytes;
 use srs_tree::Version;
 use std::alloc::Global;
 
-/// The certificate of the polygon that the input spells, or the refusal of the input. An `Err` is want of memory.
+/// The certificate of the polygon that the input spells, or the refusal of the input. An `Err` is
+/// want of memory.
 pub fn certify(alloc: Global, limits: &Limits, input: &[u8]) -> Result<Output, NoMemory>
     requires { length input.now ≤ 2 ^ 20 }
     ensures { IfOk result (λ o. Owes (Certify limits.now) input.now o.status o.text) }

@@ -31,7 +31,8 @@ const CERTIFIED: [Row; 4] = [
     ),
 ];
 
-// Cells that are left where a limit is spent; from the fourth row on, two more cells would be one too many, or not.
+// Cells that are left where a limit is spent; from the fourth row on, two more cells would be one
+// too many, or not.
 const LEFT: [Row; 7] = [
     (
         "certify 0 1 8",
@@ -84,8 +85,8 @@ const CUT: [Row; 2] = [
     ),
 ];
 
-// A triangle from (-1/2, -1/2) to (-1/2, 0), with a corner whose sum x + y decides what the cycle 1 covers; last without
-// (0, 0).
+// A triangle from (-1/2, -1/2) to (-1/2, 0), with a corner whose sum x + y decides what the cycle 1
+// covers; last without (0, 0).
 const CORNERS: [Row; 3] = [
     (
         "certify 0 1 16",
@@ -104,7 +105,8 @@ const CORNERS: [Row; 3] = [
     ),
 ];
 
-// Texts that are no polygons; the last four turn the wrong way: on one line, clockwise, twice round, and dented by nothing.
+// Texts that are no polygons; the last four turn the wrong way: on one line, clockwise, twice
+// round, and dented by nothing.
 const REFUSED: [(&str, &str); 27] = [
     ("", "refused line 1 missing\n"),
     ("polygon 0\n", "refused line 1 count\n"),
@@ -229,7 +231,8 @@ fn refused_polygons(rt: HostRuntime) -> Result<(), Fail> {
     Ok(())
 }
 
-// The polygon that a user has, whole: the check of the very bytes says how many nodes there are of each kind; and the map.
+// The polygon that a user has, whole: the check of the very bytes says how many nodes there are of
+// each kind; and the map.
 #[test]
 fn whole_polygon(rt: HostRuntime) -> Result<(), Fail> {
     let alloc = rt.alloc();

@@ -10,7 +10,8 @@ use srs_file::{FileErr, read_cert};
 use srs_num::NoMemory;
 use std::alloc::Global;
 
-/// What the check of the certificate that the input spells says, or the refusal of the input. An `Err` is want of memory.
+/// What the check of the certificate that the input spells says, or the refusal of the input. An
+/// `Err` is want of memory.
 pub fn check(alloc: Global, input: &[u8]) -> Result<Output, NoMemory>
     requires { length input.now ≤ 2 ^ 27 }
     ensures { IfOk result (λ o. Owes Check input.now o.status o.text) }

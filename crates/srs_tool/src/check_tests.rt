@@ -3,8 +3,8 @@ use crate::runs::first_other_of;
 use crate::status::Status;
 use std::test::Fail;
 
-// Certificates each node of which proves itself: as they are printed; with more pairs than the witnesses; with ranks greater
-// than needed; with leaves that nothing more is asked of.
+// Certificates each node of which proves itself: as they are printed; with more pairs than the
+// witnesses; with ranks greater than needed; with leaves that nothing more is asked of.
 const VALID: [(&str, &str); 7] = [
     (
         "srs 1\npolygon 3\nge 0 0 1\nge 1 0 8\nge 0 1 8\nlimits 0 1 16\nin 9\nw -1 -1 4\nw -1 0 3\nw -1 1 3\nw 0 -1 4\nw 0 0 0\nw 0 1 2\nw 1 -1 4\nw 1 0 1\nw 1 1 2\nend\n",

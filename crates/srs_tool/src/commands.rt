@@ -9,8 +9,8 @@ use srs_path::Limits;
 pub enum Command {
     /// To divide the polygon that is read, and print its certificate.
     Certify(Limits),
-    /// To divide the polygon that is read by so many workers beside each other, 1 to 16, and print the journal and the
-    /// certificate.
+    /// To divide the polygon that is read by so many workers beside each other, 1 to 16, and print
+    /// the journal and the certificate.
     Live(Limits, u32),
     /// To check the certificate that is read.
     Check,

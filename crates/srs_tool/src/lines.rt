@@ -12,7 +12,8 @@ use srs_print::put_words;
 use srs_text::{Bytes, put_number};
 use std::alloc::Global;
 
-/// The line that says that each node proves itself, and how many there are of each kind. An `Err` is want of memory.
+/// The line that says that each node proves itself, and how many there are of each kind. An `Err`
+/// is want of memory.
 pub fn valid(alloc: Global, counts: &Counts) -> Result<Output, NoMemory>
     ensures { IfOk result (λ o. (o.status ≡ Status.Done) × (o.text ≡ valid_line counts.now)) }
 {

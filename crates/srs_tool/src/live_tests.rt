@@ -82,7 +82,8 @@ const REFUSED: [Row; 4] = [
     ),
 ];
 
-// The place of the first row whose run doesn't end with the status, or writes something else; none where all do.
+// The place of the first row whose run doesn't end with the status, or writes something else; none
+// where all do.
 fn first_other_top<R: Threads + Wait + Sync>(
     rt: &R,
     alloc: Global,

@@ -19,8 +19,8 @@ use srs_text::Bytes;
 use srs_tree::Version;
 use std::alloc::Global;
 
-/// The map of the certificate that the input spells, with so many columns and rows, or its first fault, or the refusal of
-/// the input. An `Err` is want of memory.
+/// The map of the certificate that the input spells, with so many columns and rows, or its first
+/// fault, or the refusal of the input. An `Err` is want of memory.
 pub fn draw(alloc: Global, columns: u32, rows: u32, input: &[u8]) -> Result<Output, NoMemory>
     requires columns { IsSide columns }
     requires rows { IsSide rows }

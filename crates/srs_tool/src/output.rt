@@ -1,6 +1,8 @@
 // What a run writes, and the last step: that it was written.
 ghost use Rattle.std.specs.Prelude.{◌≡◌, IfOk};
-ghost use Rattle.srs_tool.specs.declared.status.Status.TheVariants.{Done as DoneStatus, Bad as BadStatus, Refused as RefusedStatus};
+ghost use Rattle.srs_tool.specs.declared.status.Status.TheVariants.{Done as DoneStatus};
+ghost use Rattle.srs_tool.specs.declared.status.Status.TheVariants.{Bad as BadStatus};
+ghost use Rattle.srs_tool.specs.declared.status.Status.TheVariants.{Refused as RefusedStatus};
 ghost use Rattle.srs_tool.specs.Verdicts.{valid_line, fault_line};
 ghost use Rattle.srs_tool.specs.Output.{refusal_line};
 ghost use Rattle.srs_tool.specs.Ends.{Says};

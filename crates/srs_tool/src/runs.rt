@@ -163,7 +163,8 @@ fn words_of(alloc: Global, line: &str) -> Result<Vec<String>, AllocError> {
     Ok(words)
 }
 
-/// The place of the first row whose run doesn't end with the status, or writes something else; none where all do.
+/// The place of the first row whose run doesn't end with the status, or writes something else; none
+/// where all do.
 pub(crate) fn first_other(
     alloc: Global,
     rows: &[Row],

@@ -1,5 +1,5 @@
-// Runs over memory that aren't of one command: words in no form, ends that fail, a source that is too long, and the standard
-// streams.
+// Runs over memory that aren't of one command: words in no form, ends that fail, a source that is
+// too long, and the standard streams.
 use crate::plain::plain;
 use crate::runs::{NEVER, failing, failing_by_bytes, play};
 use crate::status::Status;

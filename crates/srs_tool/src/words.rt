@@ -1,11 +1,13 @@
 // The words of the command line.
-ghost use Rattle.std.specs.Prelude.{◌≡◌, ◌↔◌, IsTrue, List, ℕ, [], ◌∷◌, map, pos, ◌<◌, ◌≤◌, ◌^◌, string_bytes, IfSome, IfNone};
+ghost use Rattle.std.specs.Prelude.{◌≡◌, ◌↔◌, IsTrue, List, ℕ, [], ◌∷◌, map, pos, ◌<◌, ◌≤◌, ◌^◌};
+ghost use Rattle.std.specs.Prelude.{string_bytes, IfSome, IfNone};
 ghost use Rattle.srs_text.specs.Spelling.{IsNumber};
 ghost use Rattle.srs_path.specs.Views.{Budget, IsBudget};
 ghost use Rattle.srs_line.specs.Fields.{AreNumbers};
 ghost use Rattle.srs_tool.specs.declared.commands.Command.{Command};
 ghost use Rattle.srs_tool.specs.declared.commands.Command.TheVariants.{Certify, Live, Map};
-ghost use Rattle.srs_tool.specs.Words.{limits_numbers, IsSide, IsCrew, SpellsCrew, SpellsSample, AsksForSample, SpellsCommand, AsksPlain};
+ghost use Rattle.srs_tool.specs.Words.{limits_numbers, IsSide, IsCrew, SpellsCrew, SpellsSample};
+ghost use Rattle.srs_tool.specs.Words.{AsksForSample, SpellsCommand, AsksPlain};
 
 use crate::commands::Command;
 use srs_path::Limits;
