@@ -96,7 +96,11 @@ fn shown(
     if let Ok(Fed::Line(line)) = lines.next(&mut source) {
         answer = feed.line(line).err();
     }
-    Ok((before, answer, (feed.vertices().len(), feed.limits().is_some())))
+    Ok((
+        before,
+        answer,
+        (feed.vertices().len(), feed.limits().is_some()),
+    ))
 }
 
 #[test]

@@ -62,8 +62,8 @@ node_moves : (old new : Tree) (line : List ℕ) → old.leaf.left ≡ 0 → Step
 node_moves old new line zero (inl (w, (h, says, (room, sized, (path, rest, p, above, e))))) = record {
   step = inr (zero, inl (w, (h, says, (room, sized, (path, rest, p, above, rw e refl)))));
   short = λ x q.
-  let events : new.events ≡ at_path path (Cut h) ∷ [] = ap (λ (t : Tree). t.events) e in
-  one_line (length old.leaf.entries) x.outcome (Cut h) (ap (λ (y : Entry). y.outcome) (first_same x (at_path path (Cut h)) (sym q ∙ events))) refl;
+      let events : new.events ≡ at_path path (Cut h) ∷ [] = ap (λ (t : Tree). t.events) e in
+      one_line (length old.leaf.entries) x.outcome (Cut h) (ap (λ (y : Entry). y.outcome) (first_same x (at_path path (Cut h)) (sym q ∙ events))) refl;
 }
 node_moves old new line zero (inr (inl (w, (n, says, e)))) = record {
   step = inr (zero, inr (inl (w, (n, says, quiet old new (record { left = n; entries = [] }) e))));

@@ -107,8 +107,7 @@ bad_line : (lines : List (List ℕ)) (s : CertReader) (line : List ℕ) (old : C
     → CertSlips old.reader line slip back → IsLineRefusal lines line (At (old.count + 1 - back) slip)
 bad_line lines s line old slip back fed plain goes f =
     let slips : CertSlips s line slip back = slips_bare s line slip back (rw fed.reader_is at f) in
-    let still : ¬ (CertEnds s) = λ e. goes (rw fed.reader_is e) in
-    (
+    let still : ¬ (CertEnds s) = λ e. goes (rw fed.reader_is e) in (
       record {
         count = length lines;
         state = s;
