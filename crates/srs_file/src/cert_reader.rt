@@ -105,7 +105,8 @@ impl CertReader {
     }
 
     fn polygon(&mut self, line: &[u8]) -> Result<Option<Node>, LineErr>
-        ensures ok { IfOk result (λ node. StepsInPolygon self.old line.now (gathers self.new node)) }
+        ensures ok { IfOk result
+            (λ node. StepsInPolygon self.old line.now (gathers self.new node)) }
         ensures err { IfErr result (IsSlip (SlipsInPolygon self.old line.now)) }
         ensures bare { self.old.tree.events ≡ [] → self.new.tree.events ≡ [] }
         ensures kept { OnErr result (self.new ≡ self.old) }

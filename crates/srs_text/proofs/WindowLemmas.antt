@@ -1,5 +1,5 @@
 -- Parts of a buffer.
-use Rattle.std.proofs.Common.{◌≡◌, ◌<◌, ◌≤◌, ◌+◌, ◌-◌, ◌++◌, ◌≢◌, [], ◌∷◌, List, ℕ, length, get_or, take, drop, replicate, sym, ap, refl, ◌∙◌, arith, length-take, length-take-le, length-drop, zero-add}
+use Rattle.std.proofs.Common.{◌≡◌, ◌<◌, ◌≤◌, ◌+◌, ◌-◌, ◌++◌, ◌≢◌, [], ◌∷◌, List, ℕ, length, get_or, take, drop, replicate, sym, ap, ◌∙◌, arith, length-take, length-take-le, length-drop, zero-add}
 use Rattle.std.specs.List.{slice_range, copy_within}
 use Rattle.std.proofs.lemmas.List.{take-take, take-append-le, take_all, take_more, drop_at}
 use Rattle.std.proofs.lemmas.List.Folds.{drop_split}

@@ -126,7 +126,8 @@ impl Window {
     pub fn read<S: Source>(&mut self, source: &mut S, most: u64) -> Result<usize, Failed>
         requires room { 0 < self.old.room }
         requires most { 0 < most }
-        ensures ok { IfOk result (Reads (S.left source.old) (S.left source.new) self.old.held self.new.held) }
+        ensures ok { IfOk result
+            (Reads (S.left source.old) (S.left source.new) self.old.held self.new.held) }
         ensures few { IfOk result (λ n. n ≤ most) }
         ensures kept { OnErr result (Keeps (S.left source.old) (S.left source.new)) }
         ensures cause { HasCause (S.faults source.old) (S.faults source.new) result }

@@ -1,4 +1,4 @@
-use Rattle.std.proofs.Common.{◌≡◌, ◌-◌, List, ℕ, length, ap, arith, length-take, length-drop, drop}
+use Rattle.std.proofs.Common.{◌≡◌, ◌-◌, length, ap, arith, length-take, length-drop, drop}
 use Rattle.std.specs.List.{slice_range}
 use Rattle.srs_text.specs.Line.{HasNoLf}
 use Rattle.srs_text.proofs.WindowLemmas.{line_stands, clear_on, window_searched}

@@ -1,4 +1,4 @@
-use Rattle.std.proofs.Common.{◌≡◌, ◌+◌, ◌≤◌, List, ℕ, length, take, ap, ◌∙◌, arith, rules, refl}
+use Rattle.std.proofs.Common.{◌≡◌, ◌+◌, ◌≤◌, length, take, ap, ◌∙◌, arith, rules}
 use Rattle.std.specs.List.{slice_range}
 use Rattle.std.proofs.lemmas.List.{with_items_is, places}
 use Rattle.srs_text.proofs.WindowLemmas.{behind, part_length, window_grows}
