@@ -166,23 +166,25 @@ completed s fine =
     let g = fine.1 in
     let K = left_open s.tree.pending in
     let few : length (s.tree.events ++ K) ≤ s.tree.limits.cells = let was = g.cells_are in omega (arith, was, g.room, length-append s.tree.events K, open_size s.tree.pending) in
-    let c : CertView = record { vertices = s.outline.ring.vertices; limits = s.tree.limits; events = s.tree.events ++ K } in
-    (c, record {
-      certificate = record {
-        polygon = fine.0.0;
-        limits_are = g.limits_are;
-        ranges = All-append (λ (x : Entry). IsInRange x.outcome) s.tree.events K g.ranges (open_all (λ (x : Entry). IsInRange x.outcome) (λ path. tt) s.tree.pending);
-        tree = g.listed K (open_listed s.tree.pending);
-        within = record {
-          cells = few;
-          each = All-append (KeepsTo s.tree.limits) s.tree.events K g.each (open_all (KeepsTo s.tree.limits) (λ path. tt) s.tree.pending);
+    let c : CertView = record { vertices = s.outline.ring.vertices; limits = s.tree.limits; events = s.tree.events ++ K } in (
+      c,
+      record {
+        certificate = record {
+          polygon = fine.0.0;
+          limits_are = g.limits_are;
+          ranges = All-append (λ (x : Entry). IsInRange x.outcome) s.tree.events K g.ranges (open_all (λ (x : Entry). IsInRange x.outcome) (λ path. tt) s.tree.pending);
+          tree = g.listed K (open_listed s.tree.pending);
+          within = record {
+            cells = few;
+            each = All-append (KeepsTo s.tree.limits) s.tree.events K g.each (open_all (KeepsTo s.tree.limits) (λ path. tt) s.tree.pending);
+          };
         };
-      };
-      vertices_are = refl;
-      limits_are = refl;
-      more = K;
-      events_are = refl;
-    })
+        vertices_are = refl;
+        limits_are = refl;
+        more = K;
+        events_are = refl;
+      },
+    )
 
 -- a certificate that goes on from a line goes on from what stood before
 pub goes_back : (s t : CertReader) (xs : History) (c : CertView) → SameHead s t → t.tree.events ≡ s.tree.events ++ xs → GoesOn t c → GoesOn s c

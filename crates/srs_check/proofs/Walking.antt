@@ -310,12 +310,15 @@ module _ (c : CertView) (i : ℕ) (L : Budget) (line depth : ℕ) (o : Outcome) 
       tested = i;
       good = good_here;
       left = subst (NotesFirst c i) (sym left) left_here;
-      stands = subst (Stands c (i + 1) i u.waiting) (sym now) (omega arith, record {
-        entry = met;
-        there = m.node.there;
-        line_is = m.line_is;
-        wrong = fails_here c i R rest cells met m.node.there fault (said (λ b k x. Fails R b c.events k x fault) (wrong c.events));
-      });
+      stands = subst (Stands c (i + 1) i u.waiting) (sym now) (
+        omega arith,
+        record {
+          entry = met;
+          there = m.node.there;
+          line_is = m.line_is;
+          wrong = fails_here c i R rest cells met m.node.there fault (said (λ b k x. Fails R b c.events k x fault) (wrong c.events));
+        },
+      );
     }
 
 -- the lines that stand for the depths, one depth more: this one's isn't rightly left

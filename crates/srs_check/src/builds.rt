@@ -45,7 +45,13 @@ pub fn build(alloc: Global, c: &Cert) -> Result<Built, NoMemory>
         };
         let event = c.events().get(i as u64);
         let depth = event.path.len();
-        if let Err(fault) = check_node(&limits, &tally.rows, &next.cell, depth, event.outcome.as_ref()) {
+        if let Err(fault) = check_node(
+            &limits,
+            &tally.rows,
+            &next.cell,
+            depth,
+            event.outcome.as_ref(),
+        ) {
             return Ok(Built::Bad(c.line(i), fault));
         }
         if let Some((ge, lt)) = enter(alloc, &mut tree, event, next.place, &next.cell)? {

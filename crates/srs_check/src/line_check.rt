@@ -64,9 +64,7 @@ impl LineCheck {
         let limits = self.feed.limits();
         self.feed.end(rest)?;
         // A certificate has limits and a node.
-        let Some(limits) = limits else {
-            unreachable!()
-        };
+        let Some(limits) = limits else { unreachable!() };
         let Some(walk) = self.walk else {
             unreachable!()
         };

@@ -73,11 +73,7 @@ impl From<srs_text::NoMemory> for CheckErr {
 /// `check` on these bytes. They are read line by line, always to the end, and no node is kept that was tested. What an
 /// `Err` took from the source is lost: `limit + 1` bytes at `TooLong`, at most `limit` at `Fault` and at `At`, at most
 /// `limit + 1` at `NoMemory`.
-pub fn check_from<S: Source>(
-    alloc: Global,
-    source: &mut S,
-    limit: u64,
-) -> Result<Checked, CheckErr>
+pub fn check_from<S: Source>(alloc: Global, source: &mut S, limit: u64) -> Result<Checked, CheckErr>
     requires { limit ≤ 2 ^ 31 }
     ensures answered { IfOk result (ChecksAll (S.left source.old) (S.left source.new) limit) }
     ensures stopped { IfErr result (Stops (S.left source.old) (S.left source.new)

@@ -12,12 +12,15 @@ const LIMIT: u64 = 1 << 27;
 
 const HEAD: &str = "srs 1\npolygon 3\nge 0 0 1\nge 1 0 8\nge 0 1 8\nlimits 0 1 16\n";
 
-const SPLIT: &str = "srs 1\npolygon 3\nge -1 0 8\nge 0 -1 8\nge 1 0 8\nlimits 2 64 16\ncut 0 1 0\ncut 1 0 0\nin 5\nw -1 0 3\nw 0 -1 4\nw 0 0 0\nw 0 1 2\nw 1 0 1\nout 2 0 1\ncut 1 1 0\nin 9\nw -1 -1 5\nw -1 0 4\nw -1 1 3\nw 0 -1 5\nw 0 0 0\nw 0 1 3\nw 1 -1 5\nw 1 0 1\nw 1 1 2\nout 1 1\nend\n";
+const SPLIT: &str =
+    "srs 1\npolygon 3\nge -1 0 8\nge 0 -1 8\nge 1 0 8\nlimits 2 64 16\ncut 0 1 0\ncut 1 0 0\nin 5\nw -1 0 3\nw 0 -1 4\nw 0 0 0\nw 0 1 2\nw 1 0 1\nout 2 0 1\ncut 1 1 0\nin 9\nw -1 -1 5\nw -1 0 4\nw -1 1 3\nw 0 -1 5\nw 0 0 0\nw 0 1 3\nw 1 -1 5\nw 1 0 1\nw 1 1 2\nout 1 1\nend\n";
 
-const LEFT: &str = "srs 1\npolygon 3\nge -1 -1 8\nge 1 -1 8\nge 0 1 8\nlimits 1 2 16\nleft cells witness\nend\n";
+const LEFT: &str =
+    "srs 1\npolygon 3\nge -1 -1 8\nge 1 -1 8\nge 0 1 8\nlimits 1 2 16\nleft cells witness\nend\n";
 
 // The leaf that is left for the number of cells, which isn't spent, is tested last and told first.
-const EARLY: &str = "srs 1\npolygon 3\nge -1 -1 8\nge 1 -1 8\nge 0 1 8\nlimits 2 64 16\ncut 0 1 0\nleft cells witness\nout 1 1\nend\n";
+const EARLY: &str =
+    "srs 1\npolygon 3\nge -1 -1 8\nge 1 -1 8\nge 0 1 8\nlimits 2 64 16\ncut 0 1 0\nleft cells witness\nout 1 1\nend\n";
 
 // The triangle of the head is inside, so this leaf fails.
 const BAD: &str = "out 1 1\n";
@@ -45,11 +48,17 @@ const ROWS: [Row; 9] = [
             left: 1,
         })),
     ),
-    (&[HEAD, BAD, "end\n"], Ok(Checked::Bad(7, Fault::NotCycle(0)))),
+    (
+        &[HEAD, BAD, "end\n"],
+        Ok(Checked::Bad(7, Fault::NotCycle(0))),
+    ),
     (&[EARLY], Ok(Checked::Bad(8, Fault::NoBudget))),
     (&[HEAD, BAD, "end\nx\n"], Err(CheckErr::At(9, Slip::Tail))),
     (&[HEAD, BAD], Err(CheckErr::At(8, Slip::Missing))),
-    (&[HEAD, "out 1 0 0\nend\n"], Err(CheckErr::At(7, Slip::Count))),
+    (
+        &[HEAD, "out 1 0 0\nend\n"],
+        Err(CheckErr::At(7, Slip::Count)),
+    ),
     (&["srs 2\n", BAD], Err(CheckErr::At(1, Slip::Version))),
     (&[""], Err(CheckErr::At(1, Slip::Missing))),
 ];
@@ -126,7 +135,10 @@ fn too_long_goes_first(rt: HostRuntime) -> Result<(), Fail> {
 fn a_failed_read_goes_first(rt: HostRuntime) -> Result<(), Fail> {
     let alloc = rt.alloc();
     let failed = Err(CheckErr::Read(ReadErr::Fault));
-    assert_eq!(rt; answer(alloc, &[HEAD, BAD, "end\n"], Some(66), 1, LIMIT)?, failed);
+    assert_eq!(rt;
+        answer(alloc, &[HEAD, BAD, "end\n"], Some(66), 1, LIMIT)?,
+        failed
+    );
     assert_eq!(rt; answer(alloc, &["x\n", HEAD], Some(4), 1, LIMIT)?, failed);
     Ok(())
 }

@@ -40,9 +40,12 @@ returns c = λ lines line k.
     record {
       state = k.state;
       fed = k.fed;
-      walks = (head.planted, λ d g.
-          let vertices = g.vertices_are ∙ sym (c.vertices.ensures ∙ ap (λ (s : CertReader). s.outline.ring.vertices) k.fed.reader_is) in
-          let come = c.in_ok-walk.ensures k.before d (subst (WalksWith k.before) (sym c.take.ensures.value) k.walks) (from_before lines line c.args.node.now k.before k.state k.runs k.step k.fed.runs k.ends d g) vertices in
-          subst (λ (n : ℕ). HasCome d n c.node.new.self) (sym (one_event_more lines line c.args.node.now k.before k.state k.runs k.step k.fed.runs k.ends))
-          (c.in_ok-node.ensures d (length k.before.tree.events) (comes lines line c.args.node.now k.before k.state k.runs k.step k.fed.runs k.ends d g c.in-Some.limits c.in_ok-walk.walk limits come)));
+      walks = (
+        head.planted,
+        λ d g.
+            let vertices = g.vertices_are ∙ sym (c.vertices.ensures ∙ ap (λ (s : CertReader). s.outline.ring.vertices) k.fed.reader_is) in
+            let come = c.in_ok-walk.ensures k.before d (subst (WalksWith k.before) (sym c.take.ensures.value) k.walks) (from_before lines line c.args.node.now k.before k.state k.runs k.step k.fed.runs k.ends d g) vertices in
+            subst (λ (n : ℕ). HasCome d n c.node.new.self) (sym (one_event_more lines line c.args.node.now k.before k.state k.runs k.step k.fed.runs k.ends))
+            (c.in_ok-node.ensures d (length k.before.tree.events) (comes lines line c.args.node.now k.before k.state k.runs k.step k.fed.runs k.ends d g c.in-Some.limits c.in_ok-walk.walk limits come)),
+      );
     }
