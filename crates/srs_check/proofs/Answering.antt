@@ -1,7 +1,6 @@
 -- What holds of an answer where it is Err, and of a place of an equal list.
-use Rattle.std.proofs.Common.{◌≡◌, ℕ, List, [], ◌∷◌, ◌++◌, slice_get, Some, sym, ap, subst, ◌∙◌}
-use Rattle.std.specs.Prelude.{Ok, Err, OnOk, OnErr, IfErr, All}
-use Rattle.std.proofs.lemmas.List.Elements.{All-push}
+use Rattle.std.proofs.Common.{◌≡◌, ℕ, List, slice_get, Some, sym, ap, subst, ◌∙◌}
+use Rattle.std.specs.Prelude.{Ok, Err, IfErr}
 use Rattle.std.specs.declared.result.Result.{Result}
 use Rattle.srs_path.specs.declared.outcomes.Outcome.{Outcome}
 use Rattle.srs_path.specs.Views.{Budget}

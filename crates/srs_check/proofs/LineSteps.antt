@@ -1,17 +1,14 @@
 -- What one line more makes of a check that takes lines.
-use Rattle.std.proofs.Common.{◌≡◌, ◌≢◌, inl, inr, ℕ, List, [], ◌∷◌, ◌++◌, length, Ok, Err, Some, None, refl, sym, ap, subst, ◌∙◌, append-nil, append_assoc}
+use Rattle.std.proofs.Common.{◌≡◌, inl, inr, ℕ, List, [], ◌∷◌, ◌++◌, length, Ok, Err, Some, None, refl, sym, ap, subst, ◌∙◌, append-nil}
 use Rattle.std.specs.Prelude.{IfOk, IfErr, IfSome, OnOk}
-use Rattle.std.proofs.lemmas.Option.{none-some, same_Some}
+use Rattle.std.proofs.lemmas.Option.{none-some}
 use Rattle.std.specs.declared.option.Option.{Option}
 use Rattle.std.specs.declared.result.Result.{Result}
 use Rattle.srs_path.specs.Views.{Budget}
-use Rattle.srs_tree.specs.Tree.{History}
 use Rattle.srs_tree.specs.WholeTrees.{ListsWholeTree}
-use Rattle.srs_line.specs.declared.slip.Slip.{Slip}
 use Rattle.srs_line.specs.declared.slip.FileErr.{FileErr}
 use Rattle.srs_line.specs.declared.slip.FileErr.TheVariants.{At, NoMemory}
 use Rattle.srs_line.specs.Machine.{lines_text, Runs}
-use Rattle.srs_cert.specs.Certificates.{CertView}
 use Rattle.srs_file.specs.declared.cert_feed.NodeAt.{NodeAt}
 use Rattle.srs_file.specs.declared.cert_reader.CertPhase.{CertPhase}
 use Rattle.srs_file.specs.declared.cert_reader.CertPhase.TheVariants.{First, Polygon, Nodes, Done}
@@ -20,7 +17,6 @@ use Rattle.srs_file.specs.Grammar.{SpellsCertificate}
 use Rattle.srs_file.specs.CertReading.{CertSteps, cert_start, limits_in, read_view, FirstCertSlip, IsCertRefusal}
 use Rattle.srs_file.specs.Feeding.{CertFeedView, IsFed, FeedsLine, IsLineRefusal, fed_limits}
 use Rattle.srs_file.proofs.Spelled.{joined_append}
-use Rattle.srs_check.specs.declared.faults.Checked.{Checked}
 use Rattle.srs_check.specs.declared.walk.Walk.{Walk}
 use Rattle.srs_check.specs.declared.line_check.LineCheck.{LineCheck}
 use Rattle.srs_check.specs.Walks.{HasCome}

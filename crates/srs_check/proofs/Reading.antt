@@ -1,6 +1,5 @@
 -- What the lines of a certificate so far tell of every certificate that goes on from them.
-use Rattle.std.proofs.Common.{◌≡◌, ◌≢◌, inl, inr, ℕ, ◌+◌, ◌<◌, ◌≤◌, List, [], ◌∷◌, ◌++◌, All, map, length, take, flat_map, slice_get, Some, refl, sym, ap, subst, ◌∙◌, arith, append_assoc, append-nil, length-append}
-use Rattle.std.specs.Prelude.{count_by, ◌==◌}
+use Rattle.std.proofs.Common.{◌≡◌, ◌≢◌, inl, inr, ℕ, ◌+◌, ◌<◌, ◌≤◌, List, [], ◌∷◌, ◌++◌, All, length, take, slice_get, Some, refl, sym, ap, subst, ◌∙◌, arith, append_assoc, append-nil, length-append}
 use Rattle.std.proofs.lemmas.Bool.Decides.{nat_tests}
 use Rattle.std.proofs.lemmas.List.{take-append-le, take_all}
 use Rattle.std.proofs.lemmas.Option.{slice_get-get_or}
@@ -9,7 +8,6 @@ use Rattle.std.proofs.lemmas.List.Elements.{All-nil, All-cons, All-append, All-h
 use Rattle.srs_num.specs.declared.pairs.V2.{V2}
 use Rattle.srs_path.specs.declared.paths.Side.{Side}
 use Rattle.srs_path.specs.declared.outcomes.Cause.TheVariants.{Memory}
-use Rattle.srs_path.specs.declared.outcomes.Outcome.{Outcome}
 use Rattle.srs_path.specs.declared.outcomes.Outcome.TheVariants.{Left}
 use Rattle.srs_path.specs.Views.{Budget, Entry}
 use Rattle.srs_tree.specs.Tree.{History}
@@ -18,9 +16,9 @@ use Rattle.srs_text.specs.Line.{HasNoLf}
 use Rattle.srs_line.specs.declared.slip.Slip.{Slip}
 use Rattle.srs_line.specs.declared.slip.Slip.TheVariants.{Missing}
 use Rattle.srs_line.specs.Machine.{lines_text, Runs, IsWrong}
-use Rattle.srs_cert.specs.Texts.{head_text, outcome_text}
+use Rattle.srs_cert.specs.Texts.{head_text}
 use Rattle.srs_cert.specs.Heights.{height}
-use Rattle.srs_cert.specs.Certificates.{CertView, IsCertificate, IsInRange, outcomes_of, lf_count, line_of_node}
+use Rattle.srs_cert.specs.Certificates.{CertView, IsInRange, lf_count, line_of_node}
 use Rattle.srs_cert.proofs.LineCounts.{lf-append, outcome_lines}
 use Rattle.srs_cert.proofs.NodeLines.{line_next}
 use Rattle.srs_file.specs.declared.tree.Tree.{Tree}
@@ -29,7 +27,6 @@ use Rattle.srs_file.specs.declared.cert_reader.CertPhase.TheVariants.{First, Pol
 use Rattle.srs_file.specs.declared.cert_reader.CertReader.{CertReader}
 use Rattle.srs_file.specs.TreeReading.{at_path, TakesLine}
 use Rattle.srs_file.specs.CertReading.{StepsFrom, CertSteps, CertSlips, CertEnds, cert_start, FirstCertSlip}
-use Rattle.srs_file.proofs.Spelled.{joined_append}
 use Rattle.srs_file.proofs.TreeTexts.{body, events_text, grows}
 use Rattle.srs_file.proofs.CertTexts.{IsFine, spelled, runs_text}
 use Rattle.srs_file.specs.declared.cert_feed.NodeAt.{NodeAt}

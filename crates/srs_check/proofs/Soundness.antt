@@ -1,10 +1,9 @@
 -- A leaf that proves itself is sound.
-use Rattle.std.proofs.Common.{◌≡◌, ◌≢◌, inl, inr, ℕ, zero, suc, ◌+◌, ◌<◌, length, slice_get, Some, ℤ, pos, ◌<ℤ◌, refl, sym, ap, ap₂, subst, ◌∙◌, arith}
+use Rattle.std.proofs.Common.{◌≡◌, ◌≢◌, inl, inr, ℕ, zero, suc, ◌+◌, ◌<◌, ℤ, pos, ◌<ℤ◌, refl, sym, ap, ap₂, subst, ◌∙◌, arith}
 use Rattle.std.specs.Prelude.{Contains}
 use Rattle.std.proofs.lemmas.Int.{by_lt_z, ints}
-use Rattle.std.proofs.lemmas.Option.{same_Some}
 use Rattle.srs_num.specs.declared.pairs.V2.{V2}
-use Rattle.srs_num.specs.Points.{Point, LinearForm}
+use Rattle.srs_num.specs.Points.{Point}
 use Rattle.srs_map.specs.Step.{pair, origin, step_of, after}
 use Rattle.srs_map.specs.Finiteness.{IsFinite}
 use Rattle.srs_map.specs.Links.{IsLink}
@@ -12,13 +11,9 @@ use Rattle.srs_map.proofs.Brunotte.{brunotte}
 use Rattle.srs_map.proofs.Cycles.{after-add}
 use Rattle.srs_plane.specs.Regions.{Area, IsIn}
 use Rattle.srs_path.specs.declared.outcomes.Outcome.{Outcome}
-use Rattle.srs_path.specs.declared.outcomes.Outcome.TheVariants.{Inside, Cut}
-use Rattle.srs_path.specs.Views.{Budget, Entry}
-use Rattle.srs_tree.specs.Tree.{History}
+use Rattle.srs_path.specs.declared.outcomes.Outcome.TheVariants.{Inside}
 use Rattle.srs_tree.specs.Growth.{IsProvedOf}
 use Rattle.srs_check.specs.Listed.{RankList, IsListed, ProvesInside}
-use Rattle.srs_check.specs.Proving.{Proves}
-use Rattle.srs_check.specs.Tested.{IsGoodLeaf}
 
 abbrev Reaches : Point → V2 → Type 0
 Reaches r w = (n : ℕ) × (after n r w ≡ origin)

@@ -1,11 +1,11 @@
 -- The lines of a source, one after another.
-use Rattle.std.proofs.Common.{◌≡◌, ℕ, ◌+◌, ◌-◌, ◌<◌, ◌≤◌, List, [], ◌∷◌, ◌++◌, length, Ok, Err, Some, None, refl, sym, ap, subst, ◌∙◌, arith, append_assoc, length-append}
+use Rattle.std.proofs.Common.{◌≡◌, ℕ, ◌+◌, ◌-◌, ◌<◌, ◌≤◌, List, [], ◌∷◌, ◌++◌, length, Err, Some, None, refl, sym, ap, subst, ◌∙◌, arith, append_assoc, length-append}
 use Rattle.std.specs.Prelude.{MatchOption, IsNone, IsErrOf, is_some}
 use Rattle.std.specs.declared.option.Option.{Option}
 use Rattle.std.specs.declared.result.Result.{Result}
 use Rattle.std.specs.Io.KnownBytes.{Consumes, IsAtEnd}
 use Rattle.std.proofs.KnownBytes.{Consumes-trans}
-use Rattle.srs_text.specs.Line.{HasNoLf, IsLineOf}
+use Rattle.srs_text.specs.Line.{IsLineOf}
 use Rattle.srs_text.specs.Ends.{Rose, TookJust, TookUpTo}
 use Rattle.srs_text.specs.declared.transfer.ReadErr.{ReadErr}
 use Rattle.srs_text.specs.declared.transfer.ReadErr.TheVariants as reads

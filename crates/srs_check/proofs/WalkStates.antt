@@ -12,7 +12,6 @@ use Rattle.srs_plane.proofs.Inside.{polygon_has_point}
 use Rattle.srs_plane.proofs.Ring_of_vertices.{few_halves}
 use Rattle.srs_path.specs.declared.paths.Side.{Side}
 use Rattle.srs_path.specs.declared.paths.Side.TheVariants.{Ge, Lt}
-use Rattle.srs_cell.specs.declared.cells.Cell.{Cell}
 use Rattle.srs_path.specs.declared.outcomes.Cause.TheVariants.{Memory}
 use Rattle.srs_path.specs.declared.outcomes.Outcome.{Outcome}
 use Rattle.srs_path.specs.declared.outcomes.Outcome.TheVariants.{Inside, Outside, Cut, Left}
@@ -24,7 +23,7 @@ use Rattle.srs_tree.specs.WholeTrees.{AllowsAt}
 use Rattle.srs_tree.proofs.HistoryLemmas.{region_at-snoc}
 use Rattle.srs_cert.specs.Certificates.{CertView, IsCertificate}
 use Rattle.srs_check.specs.declared.faults.Fault.{Fault}
-use Rattle.srs_check.specs.Proving.{Proves, ProvesItself, IsProved, node_region}
+use Rattle.srs_check.specs.Proving.{Proves, IsProved, node_region}
 use Rattle.srs_check.specs.Faults.{Fails, IsFaultOf}
 use Rattle.srs_check.specs.Tested.{IsDivided}
 use Rattle.srs_check.specs.Walks.{IsStacked, Awaits, IsGood}

@@ -1,5 +1,5 @@
 -- What one node more makes of a walk, and what the walk answers at the end.
-use Rattle.std.proofs.Common.{◌≡◌, inl, inr, ◌⊎◌, ℕ, zero, suc, ◌+◌, ◌*◌, ◌<◌, ◌≤◌, ◌^◌, false, List, [], ◌∷◌, ◌++◌, All, length, length-append, set, get_or, slice_get, refl, sym, ap, subst, ◌∙◌, arith, get_or-set_same, get_or-set_other}
+use Rattle.std.proofs.Common.{◌≡◌, inl, inr, ◌⊎◌, ℕ, zero, suc, ◌+◌, ◌<◌, ◌≤◌, false, List, [], ◌∷◌, ◌++◌, All, length, length-append, set, get_or, slice_get, refl, sym, ap, subst, ◌∙◌, arith, get_or-set_same, get_or-set_other}
 use Rattle.std.specs.Prelude.{is_some}
 use Rattle.std.specs.declared.option.Option.{Option}
 use Rattle.std.proofs.Math.Decide.{dec_lt}
@@ -30,12 +30,12 @@ use Rattle.srs_check.specs.declared.faults.Checked.TheVariants.{Valid, Bad}
 use Rattle.srs_check.specs.declared.tally.Tally.{Tally}
 use Rattle.srs_check.specs.declared.walk.Walk.{Walk}
 use Rattle.srs_check.specs.Budgets.{SpendsCells, CountsRows}
-use Rattle.srs_check.specs.Proving.{Proves, IsProved, node_region}
-use Rattle.srs_check.specs.Faults.{Fails, IsFaultOf, IsFirstFault, IsChecked, is_inside, is_outside, is_cut, is_left}
+use Rattle.srs_check.specs.Proving.{Proves, node_region}
+use Rattle.srs_check.specs.Faults.{Fails, IsChecked, is_inside, is_outside, is_cut, is_left}
 use Rattle.srs_check.specs.Certified.{IsCertified}
 use Rattle.srs_check.specs.Tested.{IsForCells, IsGoodLeaf, IsDivided}
 use Rattle.srs_check.specs.Tallies.{IsTallied, HasRoomFor}
-use Rattle.srs_check.specs.Walks.{Awaits, IsGood, AreGoodYet, IsNoted, NotesFirst, Notes, IsFailure, Stands, HasCome, Come, IsUnspent, IsFirstUnspent, IsSooner}
+use Rattle.srs_check.specs.Walks.{Awaits, IsGood, AreGoodYet, IsNoted, NotesFirst, Notes, Stands, HasCome, Come, IsUnspent, IsFirstUnspent, IsSooner}
 use Rattle.srs_check.proofs.RowCounts.{zeros, zeros_read, so_far_few, all_rows}
 use Rattle.srs_check.proofs.NodeCounts.{first_few, all_counts}
 use Rattle.srs_check.proofs.Excluded.{first_fault}

@@ -1,7 +1,6 @@
 -- Where a pair stands in an ascending list.
-use Rattle.std.specs.Prelude.{◌≡◌, ℕ, ◌<◌, ◌≤◌, ◌^◌, ℤ, pos, ◌+ℤ◌, ◌≤ℤ◌, ◌<ℤ◌, length, slice_get, Some}
+use Rattle.std.specs.Prelude.{◌≡◌, ℕ, ◌<◌, ◌≤◌, length, slice_get, Some}
 use Rattle.srs_num.specs.declared.pairs.V2.{V2}
-use Rattle.srs_map.specs.Step.{pair}
 use Rattle.srs_path.specs.Core.{Precedes}
 use Rattle.srs_check.specs.Listed.{RankList}
 

@@ -1,4 +1,4 @@
-use Rattle.std.proofs.Common.{◌≡◌, ◌+◌, ℕ, length, refl, sym, ap, subst, ◌∙◌, arith}
+use Rattle.std.proofs.Common.{◌≡◌, ℕ, length, sym, ap, subst, ◌∙◌, arith}
 use Rattle.srs_path.specs.Views.{Entry}
 use Rattle.srs_check.specs.Walks.{HasCome}
 use Rattle.srs_check.proofs.Answering.{same_get}

@@ -1,6 +1,5 @@
-use Rattle.std.proofs.Common.{ℕ, length, Some, None, sym, ap, subst, ◌∙◌}
+use Rattle.std.proofs.Common.{ℕ, length, sym, ap, subst, ◌∙◌}
 use Rattle.srs_plane.specs.Polygons.{region_of}
-use Rattle.srs_tree.specs.Tree.{History}
 use Rattle.srs_check.specs.Walks.{HasCome}
 use Rattle.srs_check.specs.LineChecks.{WalksWith}
 use Rattle.srs_check.proofs.line_check.begun.Goals as goal

@@ -1,4 +1,4 @@
-use Rattle.std.proofs.Common.{◌≡◌, ◌+◌, ◌<◌, length, sym, ap, ◌∙◌, arith}
+use Rattle.std.proofs.Common.{◌≡◌, length, sym, ap, ◌∙◌, arith}
 use Rattle.srs_path.specs.Views.{Entry}
 use Rattle.srs_check.proofs.Answering.{same_get}
 use Rattle.srs_check.proofs.Walking.{room}

@@ -1,4 +1,4 @@
-use Rattle.std.proofs.Common.{inl, ap, subst, ◌∙◌, Ok, Err, Some, None}
+use Rattle.std.proofs.Common.{inl, ap, subst, ◌∙◌, Ok, Err}
 use Rattle.std.proofs.lemmas.Result.{on_ok_weaker}
 use Rattle.srs_check.specs.declared.line_check.LineCheck.{LineCheck}
 use Rattle.srs_check.proofs.LineSteps.{SaysOfLine, AfterLine, after_line}
