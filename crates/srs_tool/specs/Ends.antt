@@ -33,6 +33,12 @@ abbrev pub IsCut : Input → Option (List ℕ) → Option (List ℕ) → Type 0
 IsCut Nothing left left_after = ⊥
 IsCut input left left_after = TookUpTo left left_after (longest input)
 
+-- the input was read, and this is what the command owes for it at this status
+pub record Brings (command : Command) (left left_after : Option (List ℕ)) (status : Status) (output : List ℕ) : Type 0 where
+  pub text : List ℕ
+  pub read : Reads (input_of command) left left_after text
+  pub owed : Owes command text status output
+
 -- the input was read, and what the command owes for it at this status was written
 pub record EndsAs (command : Command) (status : Status) (left left_after got got_after : Option (List ℕ)) : Type 0 where
   pub text : List ℕ

@@ -25,6 +25,16 @@ input_of Ask = Questions
 input_of (Make s n) = Nothing
 input_of (Bench s n) = Nothing
 
+-- the command reads its input whole before it begins; `check` doesn't, and `live` is none of these
+abbrev pub ReadsFirst : Command → Type 0
+ReadsFirst (Certify limits) = ⊤
+ReadsFirst (Live limits workers) = ⊥
+ReadsFirst Check = ⊥
+ReadsFirst (Map columns rows) = ⊤
+ReadsFirst Ask = ⊤
+ReadsFirst (Make s n) = ⊤
+ReadsFirst (Bench s n) = ⊤
+
 -- the longest such input that is read, in bytes
 abbrev pub longest : Input → ℕ
 longest Nothing = 0

@@ -3,9 +3,10 @@ ghost use Rattle.std.specs.Prelude.{◌≡◌, ◌≢◌, ◌⊎◌, ◌≤◌, 
 ghost use Rattle.srs_text.specs.Ends.{Rose};
 ghost use Rattle.srs_tool.specs.declared.commands.Command.{Command};
 ghost use Rattle.srs_tool.specs.Words.{AsksPlain, IsPlain, IsInBounds};
-ghost use Rattle.srs_tool.specs.Inputs.{input_of, longest};
+ghost use Rattle.srs_tool.specs.Inputs.{input_of, longest, ReadsFirst};
 ghost use Rattle.srs_tool.specs.Output.{Owes, EndsWell};
-ghost use Rattle.srs_tool.specs.Ends.{Ends, EndsBy, Reads, IsOverlong, IsCut, IsGoodRun, WritesNothing};
+ghost use Rattle.srs_tool.specs.Ends.{Ends, EndsBy, Brings, Reads, IsOverlong, IsCut, IsGoodRun};
+ghost use Rattle.srs_tool.specs.Ends.{WritesNothing};
 
 use crate::ask::ask;
 use crate::bench::bench;
@@ -84,14 +85,57 @@ fn read_and_answer<S: Source, K: Sink>(
     ensures unwritten { WritesNothing result → sink.new ≡ sink.old }
     ensures unread { input_of command.now ≡ Input.Nothing → source.new ≡ source.old }
 {
-    match read_input(alloc, command.input(), source) {
-        Ok(input) => match answer(alloc, command, input.as_slice()) {
-            Ok(output) => say(output.status, sink, output.text.as_slice()),
-            Err(NoMemory) => Status::NoMemory,
-        },
+    match bring(alloc, command, source) {
+        Ok(output) => say(output.status, sink, output.text.as_slice()),
         Err(ReadErr::Fault) => Status::ReadFault,
         Err(ReadErr::TooLong) => say(Status::TooLong, sink, b"refused long\n"),
         Err(ReadErr::NoMemory) => Status::NoMemory,
+    }
+}
+
+// Reads what the command reads, and makes what is owed for that: `check` as the lines come, each
+// other command once all is read.
+fn bring<S: Source>(alloc: Global, command: &Command, source: &mut S) -> Result<Output, ReadErr>
+    requires range { IsInBounds command.now }
+    requires plain { IsPlain command.now }
+    ensures owed { IfOk result (λ o. Brings command.now (S.left source.old) (S.left source.new)
+        o.status o.text) }
+    ensures long { IsErrOf result ReadErr.TooLong →
+        IsOverlong (input_of command.now) (S.left source.old) (S.left source.new) }
+    ensures fault { IsErrOf result ReadErr.Fault →
+        Rose (S.faults source.old) (S.faults source.new) }
+    ensures cut { IsErrOf result ReadErr.Fault →
+        IsCut (input_of command.now) (S.left source.old) (S.left source.new) }
+    ensures unread { input_of command.now ≡ Input.Nothing → source.new ≡ source.old }
+{
+    match command {
+        Command::Check => check(alloc, source),
+        _ => read_and_bring(alloc, command, source),
+    }
+}
+
+// Reads all that the command reads, and makes what is owed for that.
+fn read_and_bring<S: Source>(
+    alloc: Global,
+    command: &Command,
+    source: &mut S,
+) -> Result<Output, ReadErr>
+    requires range { IsInBounds command.now }
+    requires first { ReadsFirst command.now }
+    ensures owed { IfOk result (λ o. Brings command.now (S.left source.old) (S.left source.new)
+        o.status o.text) }
+    ensures long { IsErrOf result ReadErr.TooLong →
+        IsOverlong (input_of command.now) (S.left source.old) (S.left source.new) }
+    ensures fault { IsErrOf result ReadErr.Fault →
+        Rose (S.faults source.old) (S.faults source.new) }
+    ensures cut { IsErrOf result ReadErr.Fault →
+        IsCut (input_of command.now) (S.left source.old) (S.left source.new) }
+    ensures unread { input_of command.now ≡ Input.Nothing → source.new ≡ source.old }
+{
+    let input = read_input(alloc, command.input(), source)?;
+    match answer(alloc, command, input.as_slice()) {
+        Ok(output) => Ok(output),
+        Err(NoMemory) => Err(ReadErr::NoMemory),
     }
 }
 
@@ -118,17 +162,16 @@ fn read_input<S: Source>(alloc: Global, input: Input, source: &mut S) -> Result<
 // What is owed for what was read. An `Err` is want of memory.
 fn answer(alloc: Global, command: &Command, input: &[u8]) -> Result<Output, NoMemory>
     requires range { IsInBounds command.now }
-    requires plain { IsPlain command.now }
+    requires first { ReadsFirst command.now }
     requires short { length input.now ≤ longest (input_of command.now) }
     ensures { IfOk result (λ o. Owes command.now input.now o.status o.text) }
 {
     match command {
         Command::Certify(limits) => certify(alloc, limits, input),
-        Command::Check => check(alloc, input),
         Command::Map(columns, rows) => draw(alloc, *columns, *rows, input),
         Command::Ask => ask(alloc, input),
         Command::Make(s, n) => make(alloc, *s, *n),
         Command::Bench(s, n) => bench(alloc, *s, *n),
-        Command::Live(_, _) => unreachable!(),
+        Command::Check | Command::Live(_, _) => unreachable!(),
     }
 }
