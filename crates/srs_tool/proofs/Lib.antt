@@ -8,3 +8,4 @@ pub mod Drawing
 pub mod Replying
 pub mod Reading
 pub mod Benching
+pub mod Checking

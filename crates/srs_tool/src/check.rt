@@ -1,5 +1,5 @@
 // The command `check`.
-ghost use Rattle.std.specs.Prelude.{◌≡◌, IfOk, IsErrOf};
+ghost use Rattle.std.specs.Prelude.{◌≡◌, IfOk, IfErr, Ok, IsErrOf};
 ghost use Rattle.srs_text.specs.Ends.{Rose};
 ghost use Rattle.srs_check.specs.Streams.{ChecksAll};
 ghost use Rattle.srs_tool.specs.declared.commands.Command.TheVariants.{Check};
@@ -15,6 +15,7 @@ use srs_num::NoMemory;
 use srs_text::{ReadErr, Source};
 use std::alloc::Global;
 
+#[tactic(auto, using(crate::proofs::Checking::answered, crate::proofs::Checking::slipped))]
 /// What the check of the certificate that the source has says, or the refusal of what it has. The
 /// source is read to its end, and checked as its lines come.
 pub fn check<S: Source>(alloc: Global, source: &mut S) -> Result<Output, ReadErr>
@@ -27,12 +28,19 @@ pub fn check<S: Source>(alloc: Global, source: &mut S) -> Result<Output, ReadErr
     ensures cut { IsErrOf result ReadErr.Fault →
         IsCut Certificate (S.left source.old) (S.left source.new) }
 {
-    let output = match check_from(alloc, source, Input::Certificate.longest()) {
-        Ok(answer) => verdict(alloc, &answer),
-        Err(CheckErr::At(line, slip)) => refused(alloc, line, slip),
-        Err(CheckErr::Read(error)) => return Err(error),
-        Err(CheckErr::NoMemory) => return Err(ReadErr::NoMemory),
-    };
+    match check_from(alloc, source, Input::Certificate.longest()) {
+        Ok(answer) => enough(verdict(alloc, &answer)),
+        Err(CheckErr::At(line, slip)) => enough(refused(alloc, line, slip)),
+        Err(CheckErr::Read(error)) => Err(error),
+        Err(CheckErr::NoMemory) => Err(ReadErr::NoMemory),
+    }
+}
+
+// The output, if there was memory for it.
+fn enough(output: Result<Output, NoMemory>) -> Result<Output, ReadErr>
+    ensures ok { IfOk result (λ o. output ≡ Ok o) }
+    ensures err { IfErr result (λ error. error ≡ ReadErr.NoMemory) }
+{
     match output {
         Ok(output) => Ok(output),
         Err(NoMemory) => Err(ReadErr::NoMemory),
