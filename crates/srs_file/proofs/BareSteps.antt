@@ -13,7 +13,7 @@ use Rattle.srs_file.specs.declared.cert_reader.CertPhase.{CertPhase}
 use Rattle.srs_file.specs.declared.cert_reader.CertPhase.TheVariants.{First, Polygon, Nodes, Done}
 use Rattle.srs_file.specs.declared.cert_reader.CertReader.{CertReader}
 use Rattle.srs_file.specs.Leaf.{LeafView, TakesEntry}
-use Rattle.srs_file.specs.TreeReading.{at_path, no_leaf, TakesOutcome, StepsNode, StepsEntry, TakesLine}
+use Rattle.srs_file.specs.TreeReading.{at_path, no_leaf, TakesOutcome, StepsNode, TakesLine}
 use Rattle.srs_file.specs.CertReading.{StepsFrom, SlipsFrom, CertSteps, CertSlips}
 use Rattle.srs_file.specs.Feeding.{bare}
 

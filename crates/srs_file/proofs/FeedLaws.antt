@@ -1,5 +1,5 @@
 -- A reader that is fed line by line.
-use Rattle.std.proofs.Common.{◌≡◌, ◌≢◌, ◌++◌, ◌+◌, ◌-◌, ◌≤◌, ℕ, List, [], ◌∷◌, length, None, Some, refl, sym, ap, ◌∙◌, inl, inr, arith, append-nil, append_assoc, length-append}
+use Rattle.std.proofs.Common.{◌≡◌, ◌≢◌, ◌++◌, ◌+◌, ◌-◌, ◌≤◌, ℕ, List, [], ◌∷◌, length, None, Some, refl, sym, ap, ◌∙◌, inl, inr, arith, append-nil, length-append}
 use Rattle.std.specs.declared.option.Option.{Option}
 use Rattle.std.proofs.lemmas.List.Concat.{flat_map-append}
 use Rattle.srs_path.specs.declared.outcomes.Outcome.{Outcome}
@@ -26,7 +26,7 @@ use Rattle.srs_file.specs.declared.cert_feed.NodeAt.{NodeAt}
 use Rattle.srs_file.specs.Grammar.{SpellsCertificate}
 use Rattle.srs_file.specs.TreeReading.{at_path}
 use Rattle.srs_file.specs.CertReading.{cert_start, read_view, gathers, CertSteps, CertSlips, CertEnds, FirstCertSlip}
-use Rattle.srs_file.specs.Feeding.{CertFeedView, bare, IsFed, EndsNode, Tells, FeedsLine, IsLineRefusal, IsTold, Refuses}
+use Rattle.srs_file.specs.Feeding.{CertFeedView, bare, IsFed, Tells, FeedsLine, IsLineRefusal, IsTold, Refuses}
 use Rattle.srs_file.proofs.CertLaws.{cert_exact}
 use Rattle.srs_file.proofs.CertTexts.{read_is_cert}
 use Rattle.srs_file.proofs.SlipNames.{not_missing}
