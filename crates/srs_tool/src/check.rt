@@ -29,7 +29,7 @@ pub fn check<S: Source>(alloc: Global, source: &mut S) -> Result<Output, ReadErr
         IsCut Certificate (S.left source.old) (S.left source.new) }
 {
     match check_from(alloc, source, Input::Certificate.longest()) {
-        Ok(answer) => enough(verdict(alloc, &answer)),
+        Ok(answer) => enough(verdict(alloc, answer)),
         Err(CheckErr::At(line, slip)) => enough(refused(alloc, line, slip)),
         Err(CheckErr::Read(error)) => Err(error),
         Err(CheckErr::NoMemory) => Err(ReadErr::NoMemory),
@@ -48,11 +48,11 @@ fn enough(output: Result<Output, NoMemory>) -> Result<Output, ReadErr>
 }
 
 // The line that says what the check answered. An `Err` is want of memory.
-fn verdict(alloc: Global, answer: &Checked) -> Result<Output, NoMemory>
-    ensures { IfOk result (λ o. IsVerdict answer.now o.status o.text) }
+fn verdict(alloc: Global, answer: Checked) -> Result<Output, NoMemory>
+    ensures { IfOk result (λ o. IsVerdict answer o.status o.text) }
 {
     match answer {
-        Checked::Valid(counts) => valid(alloc, counts),
-        Checked::Bad(line, fault) => bad(alloc, *line, fault),
+        Checked::Valid(counts) => valid(alloc, &counts),
+        Checked::Bad(line, fault) => bad(alloc, line, &fault),
     }
 }
