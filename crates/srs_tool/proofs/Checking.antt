@@ -68,3 +68,10 @@ module _ (left left_after : Option (List ℕ)) where
   slipped line slip (Ok o) s h v e = carried (λ (x : Output). Brings Check left left_after x.status x.text) (Ok o) s (refusal_owed line slip o.status o.text h v) e
   slipped line slip (Err error) (Ok o) h v e = absurd (cc)
   slipped line slip (Err error) (Err other) h v e = e
+
+  -- the same where the limit and the answer have other names
+  pub answered_as : (n : ℕ) (a b : Checked) (r : Result Output NoMemory) (s : Result Output ReadErr) → ChecksAll left left_after n a
+      → IfOk r (λ o. IsVerdict b o.status o.text) → IfOk s (λ o. r ≡ Ok o) → n ≡ 2 ^ 27 → a ≡ b
+      → IfOk s (λ o. Brings Check left left_after o.status o.text)
+  answered_as n a b r s all v e is same =
+      answered b r s (subst (λ (x : Checked). ChecksAll left left_after (2 ^ 27) x) same (subst (λ (m : ℕ). ChecksAll left left_after m a) is all)) v e
