@@ -1,10 +1,12 @@
 -- Where two lines cross, by the three numbers of a crossing.
 use Rattle.std.proofs.Common.{◌≡◌, ℕ, ◌^◌, ◌≤◌, ℤ, pos, ◌-ℤ◌, ◌*ℤ◌, neg_ℤ, ◌≤ℤ◌, ◌<ℤ◌, inl, inr, FitsSigned, w64, ap, ◌∙◌, arith, lit<, [], ◌∷◌}
-use Rattle.srs_num.specs.Points.{LinearForm, Point, value, IsWithin, IsPointWithin}
+use Rattle.std.specs.Int.{w128}
+use Rattle.std.proofs.Math.Facts.{to_z-of_z}
+use Rattle.srs_num.specs.Points.{LinearForm, Point, value, IsWithin, IsFormSized, IsPointWithin}
 use Rattle.srs_num.specs.Lines.{meet, IsCrossing}
 use Rattle.srs_num.proofs.Linear.{linear}
 use Rattle.srs_num.proofs.Ring.{v, ◌⊗◌, ring}
-use Rattle.srs_num.proofs.Ranges.{within_more, small_fits}
+use Rattle.srs_num.proofs.Ranges.{held, within_more, small_fits}
 use Rattle.srs_num.proofs.Identities.{value-meet_first, value-meet_second, meet-d_turned}
 
 -- a coefficient fits its type
@@ -44,6 +46,44 @@ crossing_sized f g p q d m up = record {
   where
     deep : (a b : ℤ) → a ≡ b → pos 0 <ℤ b → pos 1 ≤ℤ a
     deep a b e h = omega (arith, linear)
+
+-- the three minors, as they are computed of the numbers of the two forms
+pub minors_of : (f g : LinearForm) (fa fb fc ga gb gc p q d : ℤ) → IsFormSized f → IsFormSized g
+    → fa ≡ f.a → fb ≡ f.b → fc ≡ f.c → ga ≡ g.a → gb ≡ g.b → gc ≡ g.c
+    → p ≡ held w64 fb *ℤ held w64 gc -ℤ held w64 fc *ℤ held w64 gb → q ≡ held w64 fc *ℤ held w64 ga -ℤ held w64 fa *ℤ held w64 gc → d ≡ held w64 fa *ℤ held w64 gb -ℤ held w64 fb *ℤ held w64 ga
+    → IsWithin (2 ^ 77) p → IsWithin (2 ^ 77) q → IsWithin (2 ^ 77) d → AreMinors f g p q d
+minors_of f g fa fb fc ga gb gc p q d sf sg efa efb efc ega egb egc ep eq ed hp hq hd =
+    let ha : FitsSigned w64 f.a = coefficient_fits _ sf.a_range in
+    let hb : FitsSigned w64 f.b = coefficient_fits _ sf.b_range in
+    let hc : FitsSigned w64 f.c = coefficient_fits _ sf.c_range in
+    let ka : FitsSigned w64 g.a = coefficient_fits _ sg.a_range in
+    let kb : FitsSigned w64 g.b = coefficient_fits _ sg.b_range in
+    let kc : FitsSigned w64 g.c = coefficient_fits _ sg.c_range in
+    record {
+      p_is = simp (efb, efc, egb, egc, to_z-of_z hb, to_z-of_z hc, to_z-of_z kb, to_z-of_z kc) at ep;
+      q_is = simp (efa, efc, ega, egc, to_z-of_z ha, to_z-of_z hc, to_z-of_z ka, to_z-of_z kc) at eq;
+      d_is = simp (efa, efb, ega, egb, to_z-of_z ha, to_z-of_z hb, to_z-of_z ka, to_z-of_z kb) at ed;
+      p_size = hp;
+      q_size = hq;
+      d_size = hd;
+    }
+
+-- the crossing, of the minors as 128 bits hold them
+pub record IsCrossingOf (f g : LinearForm) (r : Point) : Type 0 where
+  pub value : r ≡ meet f g
+  pub sized : IsPointWithin (2 ^ 77) r
+
+pub crossing_held : (f g : LinearForm) (p q d : ℤ) (r : Point) → AreMinors f g p q d → pos 0 <ℤ (meet f g).d
+    → r ≡ point_at (held w128 p) (held w128 q) (held w128 d) → IsCrossingOf f g r
+crossing_held f g p q d r m up e =
+    let hp : FitsSigned w128 p = small_fits w128 p (2 ^ 77) m.p_size (lit< tt) in
+    let hq : FitsSigned w128 q = small_fits w128 q (2 ^ 77) m.q_size (lit< tt) in
+    let hd : FitsSigned w128 d = small_fits w128 d (2 ^ 77) m.d_size (lit< tt) in
+    let k : r ≡ point_at p q d = simp (to_z-of_z hp, to_z-of_z hq, to_z-of_z hd) at e in
+    record {
+      value = k ∙ crossing_is f g p q d m;
+      sized = rw k (crossing_sized f g p q d m up);
+    }
 
 pub sized_more : (m n : ℕ) (r : Point) → IsPointWithin m r → m ≤ n → IsPointWithin n r
 sized_more m n r h k = record {

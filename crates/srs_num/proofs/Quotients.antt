@@ -1,9 +1,11 @@
 -- Two quotients by whole parts and remainders.
-use Rattle.std.proofs.Common.{◌≡◌, [], ◌∷◌, ℤ, pos, ◌+ℤ◌, ◌-ℤ◌, ◌*ℤ◌, ◌≤ℤ◌, ◌<ℤ◌, sym, ap, ◌∙◌, arith}
-use Rattle.std.specs.Int.{int_div_euclid, int_rem_euclid}
+use Rattle.std.proofs.Common.{◌≡◌, [], ◌∷◌, ℤ, pos, ◌+ℤ◌, ◌-ℤ◌, ◌*ℤ◌, ◌≤ℤ◌, ◌<ℤ◌, FitsSigned, sym, ap, ◌∙◌, arith}
+use Rattle.std.specs.Int.{w128, int_div_euclid, int_rem_euclid}
+use Rattle.std.proofs.Math.Facts.{to_z-of_z}
 use Rattle.srs_num.proofs.Linear.{linear, mul_zero, mul_nonneg, mul_pos}
 use Rattle.srs_num.proofs.Ring.{v, lit, ◌⊕◌, ◌⊖◌, ◌⊗◌, ring}
 use Rattle.srs_num.proofs.Floors.{euclid}
+use Rattle.srs_num.proofs.Ranges.{held}
 
 -- n is q * d + r
 pub record IsSplit (n d q r : ℤ) : Type 0 where
@@ -93,6 +95,15 @@ parts n1 d1 q1 r1 n2 d2 q2 r2 h1 h2 e1 g1 e2 g2 = outcomes n1 d1 q1 r1 n2 d2 q2 
 
     splits : (n d q r : ℤ) → pos 1 ≤ℤ d → q ≡ int_div_euclid n d → r ≡ int_rem_euclid n d → IsSplit n d q r
     splits n d q r h e g = carried n d q r _ _ e g (split_of n d h)
+
+-- the outcomes, for numbers that 128 bits hold
+pub held_parts : (n1 d1 q1 r1 n2 d2 q2 r2 : ℤ) → FitsSigned w128 n1 → FitsSigned w128 d1 → FitsSigned w128 n2 → FitsSigned w128 d2 → pos 1 ≤ℤ d1 → pos 1 ≤ℤ d2
+    → q1 ≡ int_div_euclid (held w128 n1) (held w128 d1) → r1 ≡ int_rem_euclid (held w128 n1) (held w128 d1)
+    → q2 ≡ int_div_euclid (held w128 n2) (held w128 d2) → r2 ≡ int_rem_euclid (held w128 n2) (held w128 d2) → Outcomes n1 d1 q1 r1 n2 d2 q2 r2
+held_parts n1 d1 q1 r1 n2 d2 q2 r2 fn1 fd1 fn2 fd2 h1 h2 e1 g1 e2 g2 =
+    parts n1 d1 q1 r1 n2 d2 q2 r2 h1 h2
+    (simp (to_z-of_z fn1, to_z-of_z fd1) at e1) (simp (to_z-of_z fn1, to_z-of_z fd1) at g1)
+    (simp (to_z-of_z fn2, to_z-of_z fd2) at e2) (simp (to_z-of_z fn2, to_z-of_z fd2) at g2)
 
 pub below_not : (x y : ℤ) → y ≤ℤ x → x <ℤ y → ⊥
 below_not x y h k = omega (arith, linear)

@@ -3,7 +3,11 @@ use Rattle.std.proofs.Common.{ℕ, ◌+◌, ◌-◌, ◌*◌, ◌^◌, ◌<◌, 
 use Rattle.std.proofs.lemmas.Int.{ints, unsigned_abs-mul, fits_signed_from_abs}
 use Rattle.std.specs.Int.{w128, Width}
 use Rattle.srs_num.specs.Points.{IsWithin}
-use mir.Val.{hbits}
+use mir.Val.{hbits, to_z, of_z}
+
+-- the number that a word of this width holds of this one
+abbrev pub held : Width → ℤ → ℤ
+held w z = to_z w (of_z w z)
 
 pub within_product : (a b : ℤ) (m n : ℕ) → IsWithin m a → IsWithin n b → IsWithin (m * n) (a *ℤ b)
 within_product a b m n h k = rw (unsigned_abs-mul a b) (mul-le-mul h k)

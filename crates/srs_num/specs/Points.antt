@@ -1,5 +1,5 @@
 -- Points with rational coordinates, and linear forms. Whole numbers have no bound here.
-use Rattle.std.specs.Prelude.{ℕ, ◌^◌, ◌≤◌, ℤ, pos, neg_ℤ, ◌+ℤ◌, ◌*ℤ◌, ◌≤ℤ◌, unsigned_abs}
+use Rattle.std.specs.Prelude.{ℕ, ◌≤◌, ℤ, pos, neg_ℤ, ◌+ℤ◌, ◌*ℤ◌, ◌≤ℤ◌, unsigned_abs}
 use Rattle.srs_num.specs.declared.forms.TheConstants.{MOST_COEFFICIENT}
 use Rattle.srs_num.specs.declared.points.TheConstants.{MOST_DENOMINATOR, MOST_NUMERATOR}
 
