@@ -14,6 +14,7 @@ use Rattle.std.proofs.lemmas.Bool.{eqb-true, eqb-false, eq-eqb, ne_eqb}
 use Rattle.srs_path.specs.declared.paths.Side.{Side}
 use Rattle.srs_path.specs.declared.paths.Side.TheVariants.{Ge, Lt}
 use Rattle.srs_path.specs.Paths.{digit_of, digits_then}
+use Rattle.srs_path.proofs.Digits.{digit_below, digits_then-push}
 use Rattle.srs_front.specs.Walks.{item_at, HasSlot, without_slot, slots_of, DoSlotsDiffer}
 use Rattle.srs_tree.specs.Tree.{path_eq}
 use Rattle.srs_tree.specs.Queue.{WaitingCell, without}
@@ -253,15 +254,6 @@ pub without_last : (cells : List WaitingCell) (cell : WaitingCell) → LacksPath
 without_last cells cell l =
     filter-append (λ (c : WaitingCell). not (path_eq cell.path c.path)) cells (cell ∷ [])
     ∙ ap₂ (λ (xs ys : List WaitingCell). xs ++ ys) (without_lacking cell.path cells l) (ap (λ (b : Bool). cond (not b) (cell ∷ []) []) (path_eq_same cell.path)) ∙ append-nil cells
-
--- one side more
-digits_then-push : (b : ℕ) (path : List Side) (s : Side) → digits_then b (path ++ s ∷ []) ≡ digits_then b path * 2 + digit_of s
-digits_then-push b [] s = refl
-digits_then-push b (t ∷ path) s = digits_then-push (b * 2 + digit_of t) path s
-
-digit_below : (s : Side) → digit_of s < 2
-digit_below Ge = omega arith
-digit_below Lt = omega arith
 
 -- a slice of a path, with one side more: its number, and how large it is
 pub number_more : (path : List Side) (i number later : ℕ) (s : Side) → i < length path → slice_get path i ≡ Some s → number ≡ digits_then 1 (take i path) → number < 2 ^ (i + 1)

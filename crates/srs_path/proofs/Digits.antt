@@ -18,7 +18,7 @@ side_back : (s : Side) → side_of (digit_of s) ≡ s
 side_back Ge = refl
 side_back Lt = refl
 
-digit_below : (s : Side) → digit_of s < 2
+pub digit_below : (s : Side) → digit_of s < 2
 digit_below Ge = omega arith
 digit_below Lt = omega arith
 
@@ -26,15 +26,16 @@ pub count_of : (n b : ℕ) → length (sides_of n b) ≡ n
 count_of zero b = refl
 count_of (suc n) b = length-append (sides_of n (b / 2)) (side_of (b % 2) ∷ []) ∙ omega (arith, count_of n (b / 2))
 
-digits_more : (b : ℕ) (v : List Side) (s : Side) → digits_then b (v ++ s ∷ []) ≡ digits_then b v * 2 + digit_of s
-digits_more b [] s = refl
-digits_more b (t ∷ v) s = digits_more (b * 2 + digit_of t) v s
+-- one side more
+pub digits_then-push : (b : ℕ) (v : List Side) (s : Side) → digits_then b (v ++ s ∷ []) ≡ digits_then b v * 2 + digit_of s
+digits_then-push b [] s = refl
+digits_then-push b (t ∷ v) s = digits_then-push (b * 2 + digit_of t) v s
 
 pub digits_back : (n b : ℕ) → b < 2 ^ n → digits_then 0 (sides_of n b) ≡ b
 digits_back zero b h = omega (arith, h)
 digits_back (suc n) b h =
     let half : b / 2 < 2 ^ n = omega (arith, h, pow-suc 2 n) in
-    digits_more 0 (sides_of n (b / 2)) (side_of (b % 2))
+    digits_then-push 0 (sides_of n (b / 2)) (side_of (b % 2))
     ∙ ap₂ (λ (x y : ℕ). x * 2 + y) (digits_back n (b / 2) half) (digit_back (b % 2) (omega arith))
     ∙ omega arith
 
