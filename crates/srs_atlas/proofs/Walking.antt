@@ -20,16 +20,6 @@ pub record IsWalk (list : Cells) (cells : List WaitingCell) (slot : Option ℕ) 
   pub walked : cells ≡ cells_of before
   pub next : slot ≡ first_slot after
 
-pub walk_start : (list : Cells) (cells : List WaitingCell) (slot : Option ℕ) → cells ≡ [] → slot ≡ first_slot list → IsWalk list cells slot
-walk_start list cells slot none first = record { before = []; after = list; is = refl; walked = none; next = first }
-
-pub walk_end : (list : Cells) (cells : List WaitingCell) → IsWalk list cells None → cells ≡ cells_of list
-walk_end list cells w = by w.after w.is w.next
-  where
-    by : (after : Cells) → list ≡ w.before ++ after → None ≡ first_slot after → cells ≡ cells_of list
-    by [] is e = w.walked ∙ ap cells_of (sym (is ∙ append-nil w.before))
-    by (p ∷ after) is e = absurd (cc e)
-
 has_middle : (before : Cells) (p : ℕ × WaitingCell) (after : Cells) → HasSlot (before ++ p ∷ after) p.0
 has_middle [] p after = subst (λ (b : Bool). IsSome (cond b (Some p.1) (item_at after p.0))) (sym (eq-eqb p.0 p.0 refl)) refl
 has_middle (q ∷ before) p after =
@@ -43,13 +33,6 @@ walk_has list cells slot w = by w.after w.is w.next
     by (p ∷ after) is e =
         let same : p.0 ≡ slot = cc in
         subst (λ (xs : Cells). HasSlot xs slot) (sym is) (subst (HasSlot (w.before ++ p ∷ after)) same (has_middle w.before p after))
-
-pub walk_smaller : (list : Cells) (cells : List WaitingCell) (slot : ℕ) → IsWalk list cells (Some slot) → length cells < length list
-walk_smaller list cells slot w = by w.after w.is w.next
-  where
-    by : (after : Cells) → list ≡ w.before ++ after → Some slot ≡ first_slot after → length cells < length list
-    by [] is e = absurd (cc e)
-    by (p ∷ after) is e = omega (arith, ap length w.walked, ap length is, length-append w.before (p ∷ after), length-map w.before (λ (q : ℕ × WaitingCell). q.1))
 
 lacks_front : (before : Cells) (p : ℕ × WaitingCell) (after : Cells) → DoSlotsDiffer (before ++ p ∷ after) → AllByRecursion (λ other. p.0 ≢ other) (slots_of before)
 lacks_front [] p after d = tt

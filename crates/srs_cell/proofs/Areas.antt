@@ -27,12 +27,6 @@ take_next xs i x h e = take_more xs i x h ∙ ap (λ y. take i xs ++ y ∷ []) (
 pub all_next : {X : Type 0} (P : X → Type 0) (xs : List X) (i : ℕ) (x : X) → i < length xs → slice_get xs i ≡ Some x → All P (take i xs) → P x → All P (take (i + 1) xs)
 all_next P xs i x h e a k = rw (take_next xs i x h e) (All-push P (take i xs) x a k)
 
-pub all_there : {X : Type 0} (P : X → Type 0) (xs : List X) (i : ℕ) (x : X) → i < length xs → slice_get xs i ≡ Some x → All P xs → P x
-all_there P xs i x h e a = let k = a i x h in rw (get_or_from_slice_get xs i x x e) at k
-
-pub all_done : {X : Type 0} (P : X → Type 0) (xs : List X) (i : ℕ) → length xs ≤ i → All P (take i xs) → All P xs
-all_done P xs i h a = rw (take_all i xs h) at a
-
 pub all_by_recursion : {X : Type 0} (P : X → Type 0) (xs : List X) → All P xs → AllByRecursion P xs
 all_by_recursion P [] a = tt
 all_by_recursion P (x ∷ xs) a = (All-head P x xs a, all_by_recursion P xs (All-tail P x xs a))

@@ -168,10 +168,3 @@ all_below hs cs g hull below z z_in =
 -- between a point with f below 0 and one with f above 0 there is one with f = 0, and it keeps each value that both have above 0, or at least 0
 pub middle : (f : LinearForm) (r s : Point) → value f r <ℤ pos 0 → pos 0 <ℤ value f s → value f (mix (value f s) r (neg_ℤ (value f r)) s) ≡ pos 0
 middle f r s low high = value-mix (value f s) (neg_ℤ (value f r)) f r s ∙ ring (value f r ∷ value f s ∷ []) (v 1 ⊗ v 0 ⊕ minus (v 0) ⊗ v 1) (lit (pos 0)) tt
-
-pub mix_strict : (k l : ℤ) (h : LinearForm) (r s : Point) → pos 0 <ℤ k → pos 0 <ℤ l → pos 0 <ℤ value h r → pos 0 <ℤ value h s → pos 0 <ℤ value h (mix k r l s)
-mix_strict k l h r s hk hl hr hs =
-    both _ _ _ (value-mix k l h r s) (mul_pos k (value h r) hk hr) (mul_pos l (value h s) hl hs)
-  where
-    both : (r a b : ℤ) → r ≡ a +ℤ b → pos 0 <ℤ a → pos 0 <ℤ b → pos 0 <ℤ r
-    both r a b e h k = omega (arith, linear)

@@ -97,9 +97,6 @@ floors_first m f cs M sized c lt read n d floors en ed h =
     same : (n k : ℤ) → IsFloor n d k → IsWithin m k → IsLesserFloor m n d k k
     same n k f r = record { not_above = f.not_above; not_more = least k; taken = inl refl; range = r }
 
-pub floors_all : (m : ℕ) (f : LinearForm) (cs : List Point) (i : ℕ) (floors : Floors) → length cs ≤ i → AreFloorsBelow m f cs (take i cs) floors → AreFloorsBelow m f cs cs floors
-floors_all m f cs i floors h b = subst (λ es. AreFloorsBelow m f cs es floors) (take_all i cs h) b
-
 -- the lesser of both floors, where those are of n / d and of -n / d
 pub lesser_both : (m : ℕ) (n d : ℤ) (old here new : Floors) → pos 1 ≤ℤ d → IsWithin m old.ahead → IsWithin m old.back → AreFloorsOf m n d here → IsLesser old.ahead here.ahead new.ahead → IsLesser old.back here.back new.back → AreLessened m n d old new
 lesser_both m n d old here new h wa wb f a b = record {
@@ -121,11 +118,3 @@ lesser_both m n d old here new h wa wb f a b = record {
       taken = inl refl;
       range = w;
     })
-
-pub floors_wider : (m o : ℕ) (f : LinearForm) (cs es : List Point) (floors : Floors) → m ≤ o → AreFloorsBelow m f cs es floors → AreFloorsBelow o f cs es floors
-floors_wider m o f cs es floors h b = record {
-  ahead = b.ahead;
-  back = b.back;
-  ahead_range = within_more floors.ahead m o b.ahead_range h;
-  back_range = within_more floors.back m o b.back_range h;
-}

@@ -13,13 +13,6 @@ use Rattle.srs_cell.specs.Doubles.{IsSamePoint, HasDouble, IsJoined}
 front : {X : Type 0} (P : X → Type 0) (xs : List X) (x : X) → All P (xs ++ x ∷ []) → All P xs
 front P xs x h = (All-pop P (xs ++ x ∷ []) xs (Some x) refl h).0
 
--- equal quotients are neither less than the other
-pub neither_less : (a b : ℤ) → (a <ℤ b → ⊥) → (b <ℤ a → ⊥) → a ≡ b
-neither_less a b f g = by_lt_z a b (λ l. absurd (f l)) (λ h. by_lt_z b a (λ l. absurd (g l)) (λ k. equal a b h k))
-  where
-    equal : (a b : ℤ) → b ≤ℤ a → a ≤ℤ b → a ≡ b
-    equal a b h k = omega (arith, linear)
-
 -- a form has the same sign at the same point
 weighed : (a b c p q d r s e : ℤ) → p *ℤ e ≡ r *ℤ d → q *ℤ e ≡ s *ℤ d → e *ℤ (a *ℤ p +ℤ b *ℤ q +ℤ c *ℤ d) ≡ d *ℤ (a *ℤ r +ℤ b *ℤ s +ℤ c *ℤ e)
 weighed a b c p q d r s e x y =
@@ -39,15 +32,6 @@ same_sign f c e s h =
   where
     less : (d : ℤ) → pos 0 <ℤ d → pos 0 ≤ℤ d
     less d h = omega (arith, linear)
-
-pub joined_new : (us : List Point) (c : Point) → IsJoined us c (us ++ c ∷ [])
-joined_new us c = record {
-  covers = λ f a. a;
-  inside = λ hs a. a;
-  sized = λ m a. a;
-  some = omega (arith, length-append us (c ∷ []));
-  few = omega (arith, length-append us (c ∷ []));
-}
 
 pub joined_double : (us : List Point) (c : Point) → HasDouble us c → IsJoined us c us
 joined_double us c (e, (k, lt, is), s) = record {

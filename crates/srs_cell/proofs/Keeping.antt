@@ -15,19 +15,6 @@ not_empty : {X : Type 0} (xs : List X) (x : X) → xs ++ x ∷ [] ≡ [] → ⊥
 not_empty [] x e = cc
 not_empty (y ∷ ys) x e = cc
 
-pub kept_none : (g : LinearForm) → IsKept g [] []
-kept_none g = record {
-  below = [];
-  above_line = All-nil (λ c. pos 0 ≤ℤ value g c);
-  below_line = All-nil (λ c. value g c <ℤ pos 0);
-  cover = λ f a b. a;
-  us_inside = λ hs a. a;
-  below_inside = λ hs a. a;
-  all_below = λ e. All-nil (λ c. value g c <ℤ pos 0);
-  sized = λ m a. a;
-  fewer = omega arith;
-}
-
 pub kept_push : (g : LinearForm) (cs us : List Point) (c : Point) → pos 0 ≤ℤ value g c → IsKept g cs us → IsKept g (cs ++ c ∷ []) (us ++ c ∷ [])
 kept_push g cs us c h k = record {
   below = k.below;

@@ -42,10 +42,6 @@ quotient_through a d b e c g hd he hg h k =
     closed : (a b : ℤ) → pos 0 ≤ℤ (b -ℤ a) → a ≤ℤ b
     closed a b h = omega (arith, linear)
 
--- ---- the least corner
-pub least_none : (f : LinearForm) (c : Point) → IsLeast f [] c
-least_none f c = All-nil (λ e. (value f c *ℤ e.d) ≤ℤ (value f e *ℤ c.d))
-
 module _ (f : LinearForm) (cs : List Point) (sized : All (IsPointWithin (2 ^ 77)) cs) (i : ℕ) (c : Point) (lt : i < length cs) (read : c ≡ get_or cs i c) where
   -- the corner number i
   pub member : Contains cs c
@@ -81,15 +77,6 @@ least_first f cs c lt read =
 
 pub least_all : (f : LinearForm) (cs : List Point) (i : ℕ) (c : Point) → length cs ≤ i → Contains cs c → IsLeast f (take i cs) c → IsLeastCorner f cs c
 least_all f cs i c h among least = record { among = among; least = rw (take_all i cs h) at least }
-
--- ---- the sum of the corners that take the least value
-pub sum_none : (f : LinearForm) (cs : List Point) (c : Point) → All (IsPointWithin (2 ^ 77)) cs → Contains cs c → IsLeastSum f cs [] c c
-sum_none f cs c sized among = record {
-  same = refl;
-  is_point = (All-contains (IsPointWithin (2 ^ 77)) cs c sized among).is_point;
-  above = λ k up. All-contains (λ x. pos 0 ≤ℤ value k x) cs c up among;
-  parts = λ k above. All-nil (λ e. (value f e *ℤ c.d) ≤ℤ (value f c *ℤ e.d) → value k e ≤ℤ value k c);
-}
 
 plus-d : (u w : Point) → (plus u w).d ≡ u.d +ℤ w.d
 unfolding plus
@@ -145,9 +132,6 @@ module _ (f : LinearForm) (cs : List Point) (i : ℕ) (c total e : Point) (lt : 
 
       first : (r t e : ℤ) → r ≡ t +ℤ e → pos 0 ≤ℤ t → e ≤ℤ r
       first r t e a h = omega (arith, linear)
-
-pub sum_done : (f : LinearForm) (cs : List Point) (i : ℕ) (c total : Point) → length cs ≤ i → IsLeastSum f cs (take i cs) c total → IsLeastSum f cs cs c total
-sum_done f cs i c total h s = rw (take_all i cs h) at s
 
 pub sized_at : (cs : List Point) (i : ℕ) (c : Point) → i < length cs → c ≡ get_or cs i c → All (IsPointWithin (2 ^ 77)) cs → IsPointWithin (2 ^ 77) c
 sized_at cs i c lt read sized = rw read (sized i c lt)

@@ -12,14 +12,6 @@ use Rattle.srs_cell.specs.declared.bounds.Bound.{Bound}
 use Rattle.srs_cell.specs.Bounds.{IsHigh}
 use Rattle.srs_cell.specs.Sides.{StaysBelow, ReachesAbove}
 
--- what a test of two numbers tells
-pub by_le : {P Q : Type 0} (a b : ℤ) → (a ≤ℤ b → P) → (b <ℤ a → Q) → MatchBool (le_z a b) P Q
-by_le {P} {Q} a b f g = by (le_z a b) refl
-  where
-    by : (t : Bool) → le_z a b ≡ t → MatchBool t P Q
-    by true e = f (omega (arith, ints))
-    by false e = g (omega (arith, ints))
-
 pub by_lt : {P Q : Type 0} (a b : ℤ) → (a <ℤ b → P) → (b ≤ℤ a → Q) → MatchBool (lt_z a b) P Q
 by_lt {P} {Q} a b f g = by (lt_z a b) refl
   where

@@ -130,9 +130,6 @@ snoc_get [] c d (suc i) g = absurd (none-some d g)
 snoc_get (x ∷ xs) c d zero g = inl g
 snoc_get (x ∷ xs) c d (suc i) g = snoc_get xs c d i g
 
-pub from_none : (cells : List WaitingCell) (k : ℕ) (list : List WaitingCell) → list ≡ [] → AreFromRound cells k list
-from_none cells k list e = record { each = λ i c g. absurd (none-some c (ap (λ (xs : List WaitingCell). slice_get xs i) (sym e) ∙ g)) }
-
 pub from_more : (cells : List WaitingCell) (k : ℕ) (list next : List WaitingCell) (j : ℕ) (d : WaitingCell) → AreFromRound cells k list → slice_get cells j ≡ Some d → TakesOfRound k d list next → AreFromRound cells k next
 from_more cells k list next j d from at (inl e) = subst (AreFromRound cells k) (sym e) from
 from_more cells k list next j d from at (inr t) = subst (AreFromRound cells k) (sym t.1) (record { each = each })

@@ -108,9 +108,6 @@ held_parts n1 d1 q1 r1 n2 d2 q2 r2 fn1 fd1 fn2 fd2 h1 h2 e1 g1 e2 g2 =
 pub below_not : (x y : ℤ) → y ≤ℤ x → x <ℤ y → ⊥
 below_not x y h k = omega (arith, linear)
 
-pub even_of : (a b : ℤ) → a ≤ℤ b → b ≤ℤ a → a ≡ b
-even_of a b h k = omega (arith, linear)
-
 pub gap_less : (x y a b : ℤ) → y -ℤ x ≡ a -ℤ b → b <ℤ a → x <ℤ y
 gap_less x y a b e h = omega (arith, linear)
 

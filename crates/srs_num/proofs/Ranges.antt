@@ -132,9 +132,3 @@ within_turned m p h = omega (arith, ints)
 
 pub within_of : (m : ℕ) (z : ℤ) → neg_ℤ (pos m) ≤ℤ z → z ≤ℤ pos m → IsWithin m z
 within_of m z h k = omega (arith, ints)
-
-pub above_within : (m : ℕ) (z : ℤ) → IsWithin m z → neg_ℤ (pos m) ≤ℤ z
-above_within m z h = omega (arith, ints)
-
-pub below_within : (m : ℕ) (z : ℤ) → IsWithin m z → z ≤ℤ pos m
-below_within m z h = omega (arith, ints)

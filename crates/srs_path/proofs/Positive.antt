@@ -7,14 +7,6 @@ use Rattle.srs_plane.specs.Regions.{Area, IsIn, Divides}
 use Rattle.srs_path.specs.Witnesses.{IsWitness, link, HasEdge, IsSmall, IsLarge, many, wide}
 use Rattle.srs_path.specs.Cutout.{Covers, Breaks, HoldsAt, lower_form, upper_form}
 
--- the end of an edge from a witness is a witness
-pub witness_edge : (R : Area) (w v : V2) → IsWitness R w → HasEdge R w v → IsWitness R v
-witness_edge R w v h e = link e.0 e.1 (inl (sym e.2)) h
-
-pub large_not_small : (R : Area) (W : ℕ) → IsLarge R W → IsSmall R W → ⊥
-large_not_small R W (many ws are l) s = absurd (omega (arith, l, s.few ws are))
-large_not_small R W (wide w h n) s = n (s.narrow w h)
-
 pub breaks_not_covers : (R : Area) (c : List ℤ) (i : ℕ) → i < length c → Breaks R c i → Covers R c → ⊥
 breaks_not_covers R c i l b k = elim b.2 [
   | inl n ↦ absurd (omega (arith, linear, n, (k b.0 b.1 i l).0))

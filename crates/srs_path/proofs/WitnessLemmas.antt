@@ -24,10 +24,6 @@ no_wander R P rank falls zero w p h k = let f = falls w k.1.0 p k.0 k.1.1 in abs
 no_wander R P rank falls (suc n) w p h k =
     let f = falls w k.1.0 p k.0 k.1.1 in no_wander R P rank falls n k.1.0 f.0 (omega (arith, f.1)) k.1.2
 
--- then the core is empty
-pub core_empty : (R : Area) (rank : V2 → ℕ) → ((w v : V2) → IsWitness R w → w ≢ origin → HasEdge R w v → IsWitness R v × (rank v < rank w)) → HasNoCore R
-core_empty R rank falls w c = no_wander R (IsWitness R) rank falls (rank w) w c.witness (omega arith) (c.walks (suc (rank w)))
-
 abbrev pub pair_eq : V2 → V2 → Bool
 pair_eq v w = int_eq v.a w.a && int_eq v.b w.b
 

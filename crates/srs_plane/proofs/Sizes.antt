@@ -27,17 +27,6 @@ small v placed = record {
     denominator : (d : ℤ) → pos 1 ≤ℤ d → d ≤ℤ pos 65536 → IsWithin (2 ^ 18) d
     denominator d h k = omega (arith, ints)
 
--- a near vertex is a point that may be asked about
-pub placed_sized : (v : Vertex) → IsPlaced v → IsPtSized (point_of v)
-placed_sized v placed =
-    let s = small v placed in
-    record {
-      is_point = placed.small.d_low;
-      d_range = within_more v.d _ (2 ^ 40) s.d_range (lit≤ tt);
-      p_range = within_more v.p _ (2 ^ 42) s.p_range (lit≤ tt);
-      q_range = within_more v.q _ (2 ^ 42) s.q_range (lit≤ tt);
-    }
-
 -- three products and their sum, in 64 bits
 pub record DotFits (a b c p q d : ℤ) : Type 0 where
   pub a64 : FitsSigned w64 a

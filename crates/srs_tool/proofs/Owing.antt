@@ -52,10 +52,3 @@ said c text WriteFault output result l m r s g h w v read owed says = absurd owe
 said c text TooLong output result l m r s g h w v read owed says = absurd owed
 said c text status output result l m r s g h w v read owed (inr (e, rose, front)) =
     rw e (rose, inl (record { text = text; read = read; status = status; output = output; owed = owed; written = front }))
-
--- where too much was taken and that was said, the command has ended so
-pub said_long : (c : Command) (result : Status) (left left_after : Option (List ℕ)) (reads reads_after : ℕ) (got got_after : Option (List ℕ))
-    (writes writes_after : ℕ) → IsOverlong (input_of c) left left_after → Says TooLong result got got_after writes writes_after refused_long
-    → EndsBy c result left left_after reads reads_after got got_after writes writes_after
-said_long c result l m r s g h w v over (inl (e, all)) = rw e (over, all)
-said_long c result l m r s g h w v over (inr (e, rose, front)) = rw e (rose, inr (over, front))

@@ -35,12 +35,6 @@ cells-append H e =
 pub cells-join : (G K : History) → cells_of (G ++ K) ≡ cells_of G ++ flat_map (λ (e : Entry). parts_by e.path e.outcome) K
 cells-join G K = ap (λ (x : List (List Side)). [] ∷ x) (flat_map-append parts_of G K)
 
-pub upto-append : (H : History) (e : Entry) (k : ℕ) → upto (H ++ e ∷ []) k ≡ upto H k + count_by (λ path. nat_le (length path) k) (parts_by e.path e.outcome)
-upto-append H e k = ap (count_by (λ (path : List Side). nat_le (length path) k)) (cells-append H e) ∙ sum_by-append _ (cells_of H) (parts_of e)
-
-pub row-append : (H : History) (e : Entry) (k : ℕ) → row_of (H ++ e ∷ []) k ≡ row_of H k + count_by (λ path. length path == k) (parts_by e.path e.outcome)
-row-append H e k = ap (count_by (λ (path : List Side). length path == k)) (cells-append H e) ∙ sum_by-append _ (cells_of H) (parts_of e)
-
 -- the outcome of the last event
 pub outcome_there : (H : History) (e : Entry) → outcome_at H e.path ≡ None → outcome_at (H ++ e ∷ []) e.path ≡ Some e.outcome
 outcome_there H e fresh = outcome_at-append H (e ∷ []) e.path ∙ ap (λ o. or_else o (cond (path_eq e.path e.path) (Some e.outcome) None)) fresh ∙ ap (λ b. cond b (Some e.outcome) None) (path_eq_same e.path)

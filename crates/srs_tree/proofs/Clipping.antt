@@ -96,11 +96,6 @@ module _ (Q : Area) (h : Half) where
     pub gt_all : ((r : Point) → IsIn Q r → value f r <ℤ pos 0) → IsClip Q (IsInHalf h) (record { inside = Some Q; beyond = false })
     gt_all all = clip_whole Q (IsInHalf h) (λ r i. of_gt r (all r i))
 
--- before the first half
-pub clip_start : (Q I R : Area) → I ≡ Q → IsClip Q (IsIn (take 0 R)) (record { inside = Some I; beyond = false })
-clip_start Q I R e = subst (λ (J : Area). IsClip Q (IsIn (take 0 R)) (record { inside = Some J; beyond = false })) (sym e)
-    (clip_whole Q (IsIn (take 0 R)) (λ r i. record { is_point = i.is_point; halves = tt }))
-
 either : (a b : Bool) → IsTrue (a || b) → IsTrue a ⊎ IsTrue b
 either true b k = inl refl
 either false b k = inr k
@@ -152,7 +147,3 @@ clip_none Q R k b clip = record {
   where
     first : (r : Point) → IsIn R r → IsIn (take k R) r
     first r j = record { is_point = j.is_point; halves = all_left (λ h. IsInHalf h r) (take k R) (drop k R) (subst (AllByRecursion (λ h. IsInHalf h r)) (sym (take-append-drop k R)) j.halves) }
-
--- after the last half
-pub clip_all : (Q R : Area) (n : ℕ) (c : Clip) → n ≡ length R → IsClip Q (IsIn (take n R)) c → IsClip Q (IsIn R) c
-clip_all Q R n c e clip = subst (λ (S : Area). IsClip Q (IsIn S) c) (ap (λ (m : ℕ). take m R) e ∙ take_all (length R) R (omega arith)) clip

@@ -40,9 +40,6 @@ IsPlanned-empty Root L = record { legal = IsLegal-empty Root L.wits; each = Each
 pub IsPlanned-append : (Root : Area) (L : Budget) (H : History) (e : Entry) → IsPlanned Root L H → MayFollow Root L.wits H e → MayComeNext Root L H e → IsPlanned Root L (H ++ e ∷ [])
 IsPlanned-append Root L H e old may next = record { legal = IsLegal-append Root L.wits H e old.legal may; each = Each-append (MayComeNext Root L) H e old.each next }
 
-pub IsPlanned-first : (Root : Area) (L : Budget) (G K : History) → IsPlanned Root L (G ++ K) → IsPlanned Root L G
-IsPlanned-first Root L G K p = record { legal = IsLegal-first Root L.wits G K p.legal; each = Each-first (MayComeNext Root L) G K p.each }
-
 -- the events of a legal history are the outcomes at their paths
 record Shown (Root : Area) (W : ℕ) (H : History) : Type 0 where
   legal : IsLegal Root W H

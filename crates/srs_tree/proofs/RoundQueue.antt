@@ -104,15 +104,3 @@ pub queue_in_order : (Root : Area) (L : Budget) (H : History) → IsPlanned Root
 queue_in_order Root L H planned = grow (Both Root L) (InOrder Root L)
     (record { legal = IsLegal-empty Root L.wits; order = order_flat ([] ∷ []) 0 root_length; near = λ p q c d. omega (arith, root_length p c, root_length q d) })
     (λ G e old both. order_step Root L G e old both) H (λ k e g. (planned.legal k e g, planned.each k e g))
-
--- the first cell of the queue of a planned history may have the next event: the rows above it are closed
-pub first_rows : (Root : Area) (L : Budget) (H : History) (p : List Side) (rest : List (List Side)) → IsPlanned Root L H → queue_of H ≡ p ∷ rest → Closed H (length p)
-first_rows Root L H p rest planned e = closed_by_queue Root L.wits H (length p) planned.legal longer
-  where
-    longer : (q : List Side) → Contains (queue_of H) q → length p ≤ length q
-    longer q c =
-        let l = c.1 in
-        let a : length (get_or (queue_of H) 0 q) ≤ length (get_or (queue_of H) c.0 q) = (queue_in_order Root L H planned).order 0 c.0 q (omega arith) l in
-        let b : length (get_or (queue_of H) 0 q) ≡ length p = ap (λ (x : List (List Side)). length (get_or x 0 q)) e in
-        let d : length (get_or (queue_of H) c.0 q) ≡ length q = ap length c.2 in
-        omega (arith, a, b, d)

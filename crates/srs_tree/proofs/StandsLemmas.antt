@@ -27,9 +27,6 @@ less_equal e = cc
 greater_equal : ◌≡◌ {A = Ordering} Greater Equal → ⊥
 greater_equal e = cc
 
-equal_less : ◌≡◌ {A = Ordering} Equal Less → ⊥
-equal_less e = cc
-
 greater_less : ◌≡◌ {A = Ordering} Greater Less → ⊥
 greater_less e = cc
 
