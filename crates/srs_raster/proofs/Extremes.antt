@@ -1,13 +1,14 @@
 -- The least floor and the greatest ceiling of the coordinates of vertices.
-use Rattle.std.proofs.Common.{◌≡◌, ◌⊎◌, inl, inr, ℕ, ◌+◌, ◌<◌, ℤ, pos, neg_ℤ, ◌+ℤ◌, ◌-ℤ◌, ◌*ℤ◌, ◌≤ℤ◌, ◌<ℤ◌, List, [], ◌∷◌, length, get_or, Bool, true, false, cond, refl, sym, subst, ◌∙◌, arith}
+use Rattle.std.proofs.Common.{◌≡◌, ◌⊎◌, inl, inr, ℕ, ◌+◌, ◌^◌, ◌<◌, ℤ, pos, neg_ℤ, ◌+ℤ◌, ◌-ℤ◌, ◌*ℤ◌, ◌≤ℤ◌, ◌<ℤ◌, List, [], ◌∷◌, length, get_or, Bool, true, false, cond, refl, sym, subst, ◌∙◌, FitsSigned, w64, arith, lit<}
 use Rattle.std.specs.Prelude.{Contains, int_lt}
-use Rattle.std.specs.Int.{int_min, int_max}
+use Rattle.std.specs.Int.{int_min, int_max, w128}
 use Rattle.std.proofs.lemmas.Bool.{cases_order}
 use Rattle.std.proofs.lemmas.Int.{ints}
 use Rattle.srs_num.specs.Points.{IsWithin}
 use Rattle.srs_num.specs.Floor.{IsFloor, IsCeiling}
 use Rattle.srs_num.proofs.Linear.{linear, mul_mono}
 use Rattle.srs_num.proofs.Floors.{floor_within}
+use Rattle.srs_num.proofs.Ranges.{small_fits}
 use Rattle.srs_num.proofs.Ring.{v, ◌⊗◌, minus, ring}
 use Rattle.srs_plane.specs.declared.polygons.Vertex.{Vertex}
 use Rattle.srs_plane.specs.Polygons.{IsPolygon}
@@ -50,6 +51,44 @@ ceiling_within m n d k h c low high =
 
     back : IsWithin m (neg_ℤ k) → IsWithin m k
     back h = omega (arith, ints)
+
+-- a coordinate 64 times over and its denominator, in the widths in which they are divided
+pub record ScaledFits (n d : ℤ) : Type 0 where
+  pub n128 : FitsSigned w128 n
+  pub d64 : FitsSigned w64 d
+  pub d128 : FitsSigned w128 d
+
+pub scaled_fits : (u : Vertex) (n : ℤ) → IsPlaced u → IsWithin (2 ^ 30) n → ScaledFits n u.d
+scaled_fits u n placed sized = record {
+  n128 = small_fits w128 n (2 ^ 30) sized (lit< tt);
+  d64 = small_fits w64 u.d 65536 d_range (lit< tt);
+  d128 = small_fits w128 u.d 65536 d_range (lit< tt);
+}
+  where
+    denominator : (d : ℤ) → pos 1 ≤ℤ d → d ≤ℤ pos 65536 → IsWithin 65536 d
+    denominator d h k = omega (arith, ints)
+
+    d_range : IsWithin 65536 u.d
+    d_range = denominator u.d placed.small.d_low placed.small.d_high
+
+-- the quotient, in both widths
+pub record EndFits (k : ℤ) : Type 0 where
+  pub narrow : IsWithin 256 k
+  pub in64 : FitsSigned w64 k
+  pub in128 : FitsSigned w128 k
+
+end_fits : (k : ℤ) → IsWithin 256 k → EndFits k
+end_fits k h = record {
+  narrow = h;
+  in64 = small_fits w64 k 256 h (lit< tt);
+  in128 = small_fits w128 k 256 h (lit< tt);
+}
+
+pub floor_fits : (n d k : ℤ) → IsFloor n d k → pos 1 ≤ℤ d → neg_ℤ (pos 256 *ℤ d) ≤ℤ n → n ≤ℤ (pos 256 *ℤ d) → EndFits k
+floor_fits n d k floor h low high = end_fits k (floor_within 256 n d k h floor low high)
+
+pub ceiling_fits : (n d k : ℤ) → IsCeiling n d k → pos 1 ≤ℤ d → neg_ℤ (pos 256 *ℤ d) ≤ℤ n → n ≤ℤ (pos 256 *ℤ d) → EndFits k
+ceiling_fits n d k ceiling h low high = end_fits k (ceiling_within 256 n d k h ceiling low high)
 
 module _ (vs : List Vertex) (polygon : IsPolygon vs) where
   -- each vertex is placed

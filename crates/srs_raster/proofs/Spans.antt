@@ -1,10 +1,12 @@
 -- The sizes of the numbers of a grid's points.
-use Rattle.std.proofs.Common.{◌≡◌, ℕ, ◌+◌, ◌*◌, ◌^◌, ◌≤◌, ℤ, pos, ◌+ℤ◌, ◌-ℤ◌, ◌*ℤ◌, ◌≤ℤ◌, ◌<ℤ◌, [], ◌∷◌, sym, subst, arith}
+use Rattle.std.proofs.Common.{◌≡◌, ℕ, ◌+◌, ◌*◌, ◌^◌, ◌<◌, ◌≤◌, ℤ, pos, ◌+ℤ◌, ◌-ℤ◌, ◌*ℤ◌, ◌≤ℤ◌, ◌<ℤ◌, [], ◌∷◌, sym, subst, FitsSigned, w64, arith, lit<}
 use Rattle.std.proofs.lemmas.Int.{ints}
 use Rattle.srs_num.specs.Points.{IsWithin, IsPtSized}
 use Rattle.srs_num.proofs.Linear.{linear, mul_pos}
-use Rattle.srs_num.proofs.Ranges.{within_product, within_sum, within_difference, within_more}
+use Rattle.srs_num.proofs.Ranges.{within_product, within_sum, within_difference, within_more, small_fits}
 use Rattle.srs_num.proofs.Ring.{v, lit, ◌⊗◌, ring}
+use Rattle.srs_raster.specs.declared.grids.Grid.{Grid}
+use Rattle.srs_raster.specs.Maps.{IsGrid, across_of, up_of}
 
 -- a number as a whole number
 within_nat : (n m : ℕ) → n ≤ m → IsWithin m (pos n)
@@ -25,6 +27,46 @@ sum_small a b s = within_more (a +ℤ b) (400 * 256 + 400 * 512) (2 ^ 20) (withi
 
 pub difference_small : (a b : ℤ) → AreSmall a b → IsWithin (2 ^ 20) (a -ℤ b)
 difference_small a b s = within_more (a -ℤ b) (400 * 256 + 400 * 512) (2 ^ 20) (within_difference a b (400 * 256) (400 * 512) s.first s.second) (omega arith)
+
+-- the place of a middle, step by step, in 64 bits: the ends of the frame, their difference, the two
+-- products, and what they make together
+pub record PlaceFits (low high a b z : ℤ) : Type 0 where
+  pub low64 : FitsSigned w64 low
+  pub high64 : FitsSigned w64 high
+  pub span64 : FitsSigned w64 (high -ℤ low)
+  pub first : FitsSigned w64 a
+  pub second : FitsSigned w64 b
+  pub all : FitsSigned w64 z
+  pub within : IsWithin (2 ^ 20) z
+
+place_fits : (low high a b z : ℤ) → IsWithin 256 low → IsWithin 256 high → AreSmall a b → IsWithin (2 ^ 20) z → PlaceFits low high a b z
+place_fits low high a b z hl hh small total = record {
+  low64 = small_fits w64 low 256 hl (lit< tt);
+  high64 = small_fits w64 high 256 hh (lit< tt);
+  span64 = small_fits w64 (high -ℤ low) 512 (within_difference high low 256 256 hh hl) (lit< tt);
+  first = small_fits w64 a (400 * 256) small.first (lit< tt);
+  second = small_fits w64 b (400 * 512) small.second (lit< tt);
+  all = small_fits w64 z (2 ^ 20) total (lit< tt);
+  within = total;
+}
+
+-- those of a column, for at most 200 columns
+pub across_fits : (g : Grid) (i : ℕ) → IsGrid g → i < g.width
+    → PlaceFits g.frame.left g.frame.right (pos (2 * g.width) *ℤ g.frame.left) (pos (2 * i + 1) *ℤ (g.frame.right -ℤ g.frame.left)) (across_of g i)
+across_fits g i grid column =
+    let few = grid.columns in
+    let narrow = grid.narrow in
+    let small = products_small (2 * g.width) (2 * i + 1) g.frame.left g.frame.right g.frame.left (omega arith) (omega arith) narrow.left narrow.right narrow.left in
+    place_fits g.frame.left g.frame.right _ _ _ narrow.left narrow.right small (sum_small _ _ small)
+
+-- those of a row, for at most 200 rows
+pub up_fits : (g : Grid) (j : ℕ) → IsGrid g → j < g.height
+    → PlaceFits g.frame.bottom g.frame.top (pos (2 * g.height) *ℤ g.frame.top) (pos (2 * j + 1) *ℤ (g.frame.top -ℤ g.frame.bottom)) (up_of g j)
+up_fits g j grid row =
+    let few = grid.rows in
+    let narrow = grid.narrow in
+    let small = products_small (2 * g.height) (2 * j + 1) g.frame.top g.frame.top g.frame.bottom (omega arith) (omega arith) narrow.top narrow.top narrow.bottom in
+    place_fits g.frame.bottom g.frame.top _ _ _ narrow.bottom narrow.top small (difference_small _ _ small)
 
 pub deep : (w h : ℕ) → pos h *ℤ (pos w *ℤ pos 128) ≡ pos 128 *ℤ pos w *ℤ pos h
 deep w h = ring (pos h ∷ pos w ∷ []) (v 0 ⊗ (v 1 ⊗ lit (pos 128))) (lit (pos 128) ⊗ v 1 ⊗ v 0) tt

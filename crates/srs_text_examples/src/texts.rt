@@ -1,5 +1,6 @@
-// Texts with some of their lines changed, and what a reader says of them.
+// Texts with some of their lines changed, sources of texts, and what a reader says of them.
 use srs_file::{FileErr, Slip, read_cert};
+use srs_text::{Bytes, MemSource, Nums};
 use std::alloc::{AllocError, Global};
 use std::test::Fail;
 
@@ -95,6 +96,18 @@ fn edit_of<'a>(edits: &[(usize, &'a str)], i: usize) -> Option<&'a str> {
         }
     }
     None
+}
+
+// A source of these bytes, at most so many a read, of which one read fails.
+pub fn source_of(alloc: Global, bytes: &[u8], piece: u64, fail: i64) -> Result<MemSource, Fail> {
+    if piece == 0 {
+        Err("a read takes some")?;
+    }
+    let mut text = Bytes::new(alloc);
+    text.extend(bytes)?;
+    let mut reads = Nums::new(alloc);
+    reads.push(fail)?;
+    Ok(MemSource::cut(text, reads, piece))
 }
 
 // What stands in place of which lines, and the line and the slip that answer it.

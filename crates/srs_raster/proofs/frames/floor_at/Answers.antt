@@ -1,43 +1,20 @@
 -- A floor within 256 fits.
-use Rattle.std.proofs.Common.{◌^◌, ℤ, FitsSigned, w64, lit<, arith, subst}
-use Rattle.std.specs.Int.{w128}
-use Rattle.std.proofs.lemmas.Int.{ints, to_z-of_z}
-use Rattle.srs_num.specs.Points.{IsWithin}
+use Rattle.std.proofs.Common.{ℤ, subst}
+use Rattle.std.proofs.Math.Facts.{to_z-of_z}
 use Rattle.srs_num.specs.Floor.{IsFloor}
-use Rattle.srs_num.proofs.Ranges.{small_fits}
-use Rattle.srs_num.proofs.Floors.{floor_within}
+use Rattle.srs_raster.proofs.Extremes.{scaled_fits, floor_fits}
 use Rattle.srs_raster.proofs.frames.floor_at.Goals as goal
 
 pub returns-clause-floor : goal.returns-clause-floor
 returns-clause-floor c =
-    let n = c.scaled.result in
-    let d = c.args.v.now.d in
-    let k = c.floor_div.result in
-    let low = c.requires.small.d_low in
-    let high = c.requires.small.d_high in
-    let dw : IsWithin 65536 d = omega (arith, ints) in
-    let n1 : FitsSigned w128 n = small_fits w128 n (2 ^ 30) c.scaled.ensures.sized.1 (lit< tt) in
-    let d1 : FitsSigned w64 d = small_fits w64 d 65536 dw (lit< tt) in
-    let d2 : FitsSigned w128 d = small_fits w128 d 65536 dw (lit< tt) in
-    let is : IsFloor n d k = simp to_z-of_z at c.floor_div.ensures.floor in
-    let within : IsWithin 256 k = floor_within 256 n d k low is c.scaled.ensures.low c.scaled.ensures.high in
-    let k1 : FitsSigned w64 k = small_fits w64 k 256 within (lit< tt) in
-    let k2 : FitsSigned w128 k = small_fits w128 k 256 within (lit< tt) in
-    simp to_z-of_z (subst (λ (m : ℤ). IsFloor m d k) c.scaled.ensures.value is)
+    let s = scaled_fits c.args.v.now c.scaled.result c.requires c.scaled.ensures.sized.1 in
+    let is : IsFloor c.scaled.result c.args.v.now.d c.floor_div.result = simp (to_z-of_z s.n128, to_z-of_z s.d64, to_z-of_z s.d128) at c.floor_div.ensures.floor in
+    let k = floor_fits _ _ c.floor_div.result is c.scaled.ensures.sized.0 c.scaled.ensures.low c.scaled.ensures.high in
+    simp (to_z-of_z k.in64, to_z-of_z k.in128) (subst (λ (m : ℤ). IsFloor m c.args.v.now.d c.floor_div.result) c.scaled.ensures.value is)
 
 pub returns-clause-narrow : goal.returns-clause-narrow
 returns-clause-narrow c =
-    let n = c.scaled.result in
-    let d = c.args.v.now.d in
-    let k = c.floor_div.result in
-    let low = c.requires.small.d_low in
-    let high = c.requires.small.d_high in
-    let dw : IsWithin 65536 d = omega (arith, ints) in
-    let n1 : FitsSigned w128 n = small_fits w128 n (2 ^ 30) c.scaled.ensures.sized.1 (lit< tt) in
-    let d1 : FitsSigned w64 d = small_fits w64 d 65536 dw (lit< tt) in
-    let d2 : FitsSigned w128 d = small_fits w128 d 65536 dw (lit< tt) in
-    let is : IsFloor n d k = simp to_z-of_z at c.floor_div.ensures.floor in
-    let within : IsWithin 256 k = floor_within 256 n d k low is c.scaled.ensures.low c.scaled.ensures.high in
-    let k1 : FitsSigned w64 k = small_fits w64 k 256 within (lit< tt) in
-    let k2 : FitsSigned w128 k = small_fits w128 k 256 within (lit< tt) in
-    simp to_z-of_z within
+    let s = scaled_fits c.args.v.now c.scaled.result c.requires c.scaled.ensures.sized.1 in
+    let is : IsFloor c.scaled.result c.args.v.now.d c.floor_div.result = simp (to_z-of_z s.n128, to_z-of_z s.d64, to_z-of_z s.d128) at c.floor_div.ensures.floor in
+    let k = floor_fits _ _ c.floor_div.result is c.scaled.ensures.sized.0 c.scaled.ensures.low c.scaled.ensures.high in
+    simp (to_z-of_z k.in64, to_z-of_z k.in128) k.narrow
