@@ -1,6 +1,6 @@
 -- What one more pair makes of those found.
-use Rattle.std.proofs.Common.{◌≡◌, ◌≢◌, ◌⊎◌, inl, inr, zero, suc, ◌^◌, ◌≤◌, List, [], ◌∷◌, ◌++◌, Bool, true, false, IsTrue, arith, ap, subst, sym, ◌∙◌, refl, lit<, pos, append_assoc, length-append, get_or}
-use Rattle.std.specs.Prelude.{Contains, AllPairs, if◌then◌else◌, not, Result, Ok, Err, OnOk, IfOk}
+use Rattle.std.proofs.Common.{◌≡◌, ◌≢◌, ◌⊎◌, inl, inr, zero, suc, ◌^◌, ◌≤◌, List, [], ◌∷◌, ◌++◌, Bool, true, false, IsTrue, arith, ap, ap₂, subst, sym, ◌∙◌, refl, lit<, pos, append_assoc, length-append, get_or}
+use Rattle.std.specs.Prelude.{Contains, AllPairs, if◌then◌else◌, Result, Ok, Err, OnOk, IfOk}
 use Rattle.std.specs.List.{list_any}
 use Rattle.std.proofs.lemmas.Bool.{false≢true}
 use Rattle.std.proofs.lemmas.List.{append-nil}
@@ -17,6 +17,7 @@ use Rattle.srs_plane.specs.Regions.{Area}
 use Rattle.srs_path.specs.Witnesses.{IsWitness, unit}
 use Rattle.srs_path.proofs.WitnessLemmas.{pair_eq, pair-decides}
 use Rattle.srs_wit.specs.Halves.{IsUpperOf, IsHeld, count_both}
+use Rattle.srs_wit.specs.PairSets.{Lists, all_of, has_pair, with_pair, HasOneMore}
 use Rattle.srs_wit.specs.Search.{AreHalf, Adds, Extends, HasUnits}
 use Rattle.srs_wit.proofs.Mirrored.{minus_twice, witness_mirrored}
 
@@ -90,6 +91,25 @@ module _ (old : List V2) (was : Bool) (v u : V2) (new : List V2) (e : new ≡ in
       few = rw grown (omega (arith, length-append old (u ∷ [])));
     }
 
+-- the upper one of v and -v was added to those that wait, where it is new
+pub adds_one : (old new : Lists) (was : Bool) (v u : V2) → IsUpperOf v u → IsNarrow v → HasOneMore old u new → Adds (all_of old) was v (all_of new) was old.waiting new.waiting
+adds_one old new was v u upper n h =
+    let e : all_of new ≡ old.followed ++ with_pair old.followed old.waiting u = ap₂ (λ (x y : List V2). x ++ y) h.followed h.waiting in
+    by_test e (has_pair (all_of old) u) refl
+  where
+    over : (b : Bool) → old.followed ++ (if b then old.waiting else old.waiting ++ u ∷ []) ≡ (if b then all_of old else all_of old ++ u ∷ [])
+    over true = refl
+    over false = sym (append_assoc old.followed old.waiting (u ∷ []))
+
+    by_test : all_of new ≡ old.followed ++ with_pair old.followed old.waiting u → (b : Bool) → has_pair (all_of old) u ≡ b → Adds (all_of old) was v (all_of new) was old.waiting new.waiting
+    by_test e true t =
+        let s : new.waiting ≡ old.waiting = h.waiting ∙ ap (λ (x : Bool). if x then old.waiting else old.waiting ++ u ∷ []) t in
+        subst (Adds (all_of old) was v (all_of new) was old.waiting) (sym s)
+        (adds_known (all_of old) was v u (all_of new) (e ∙ over (has_pair (all_of old) u)) upper old.waiting t n)
+    by_test e false t =
+        adds_new (all_of old) was v u (all_of new) (e ∙ over (has_pair (all_of old) u)) upper t old.waiting new.waiting n
+        (h.waiting ∙ ap (λ (x : Bool). if x then old.waiting else old.waiting ++ u ∷ []) t)
+
 module _ (R : Area) where
   pub none_half : (met : Bool) → met ≡ false → AreHalf R [] met
   none_half met e = record {
@@ -159,14 +179,6 @@ module _ (k0 k1 k2 : List V2) (m0 m1 m2 : Bool) (w0 w1 w2 : List V2) (e0 : k0 �
 pub on_ok : {X E : Type 0} (r : Result X E) (Y : Type 0) → Y → OnOk r Y
 on_ok (Ok x) Y y = y
 on_ok (Err e) Y y = tt
-
-pub was_there : (r b : Bool) → r ≡ false → r ≡ not b → b ≡ true
-was_there r true e f = refl
-was_there r false e f = sym e ∙ f
-
-pub was_new : (r b : Bool) → r ≡ true → r ≡ not b → b ≡ false
-was_new r true e f = sym e ∙ f
-was_new r false e f = refl
 
 -- what the pairs that were listed are known to be
 pub shown_along : {E : Type 0} (P : List V2 → Type 0) (ws : List V2) (r : Result (List V2) E) → IfOk r (λ ps. ps ≡ ws) → P ws → IfOk r P

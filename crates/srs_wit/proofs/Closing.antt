@@ -1,6 +1,8 @@
 -- How the search goes on until all links lead to pairs that were found.
 use Rattle.std.proofs.Common.{◌≡◌, ◌⊎◌, inl, inr, ℕ, ◌^◌, ◌<◌, ◌≤◌, Bool, false, List, [], ◌∷◌, ◌++◌, length, ℤ, pos, neg_ℤ, ◌+ℤ◌, ◌*ℤ◌, ◌≤ℤ◌, ◌<ℤ◌, arith, subst, sym, ap, ◌∙◌, lit≤}
 use Rattle.std.specs.Prelude.{Contains}
+use Rattle.std.specs.List.Sorted.{IsPermutation}
+use Rattle.std.proofs.lemmas.List.Sorted.{Contains-permutation}
 use Rattle.std.proofs.lemmas.List.Elements.{Contains-append_left, Contains-append_right, Contains-append_cases, Contains-push}
 use Rattle.srs_num.specs.declared.pairs.V2.{V2}
 use Rattle.srs_num.specs.Points.{Point, IsPoint}
@@ -18,6 +20,8 @@ use Rattle.srs_cell.specs.declared.spans.Span.{Span}
 use Rattle.srs_wit.specs.Listing.{AreTooMany}
 use Rattle.srs_wit.specs.Halves.{IsHeld, with_opposites, count_both}
 use Rattle.srs_wit.specs.Search.{AreHalf, AreFound, IsTooLong, Extends, IsClosedAt, HasUnits, AreAll}
+use Rattle.srs_wit.specs.PairSets.{Lists, all_of, IsNext}
+use Rattle.srs_wit.proofs.Permuting.{was_found, found_permuted, held_permuted, moved_last}
 use Rattle.srs_wit.proofs.Adding.{contains_one, held_longer, mirror_held}
 use Rattle.srs_wit.proofs.BothSides.{held_listed, length-both, shows_many}
 use Rattle.srs_wit.proofs.Following.{long_shows_many}
@@ -60,6 +64,26 @@ module _ (R : Area) (W : ℕ) where
         among = λ w c. subst (λ (l : List V2). Contains l w) (sym e) c;
         settled = λ w c. inl (subst (λ (l : List V2). Contains l w) e c);
       }
+
+  -- the same with those found in another order
+  pub closing_permuted : (ks js : List V2) (met : Bool) (waiting : List V2) → IsPermutation ks js → Closing R W ks met waiting → Closing R W js met waiting
+  closing_permuted ks js met waiting p c = record {
+    found = found_permuted ks js p R W met c.found;
+    units = λ u k. held_permuted ks js p met u (c.units u k);
+    among = λ w i. Contains-permutation ks js w p (c.among w i);
+    settled = λ w i. elim (c.settled w (was_found ks js p w i)) [
+      | inl y ↦ inl y
+      | inr y ↦ inr (λ v l. held_permuted ks js p met v (y v l))
+    ];
+  }
+
+  -- the pair that waits last was followed
+  pub closing_moved : (old new : Lists) (met : Bool) (w : V2) → IsNext old w new → Closing R W (all_of old) met old.waiting → Closing R W (all_of new) met old.waiting
+  closing_moved old new met w n c =
+      let e : all_of old ≡ old.followed ++ (new.waiting ++ w ∷ []) = ap (λ (x : List V2). old.followed ++ x) n.waited in
+      let f : (old.followed ++ w ∷ []) ++ new.waiting ≡ all_of new = ap (λ (x : List V2). x ++ new.waiting) (sym n.followed) in
+      closing_permuted (all_of old) (all_of new) met old.waiting
+      (subst (λ (x : List V2). IsPermutation x (all_of new)) (sym e) (subst (IsPermutation (old.followed ++ (new.waiting ++ w ∷ []))) f (moved_last old.followed new.waiting w))) c
 
   -- after the links of w, which waited last, were followed
   module _ (ks : List V2) (was : Bool) (new : List V2) (met : Bool) (waiting rest next : List V2) (w : V2) (e : waiting ≡ rest ++ w ∷ []) (x : Extends R ks was new met rest next) (few : count_both new met ≤ W) where

@@ -1,7 +1,9 @@
 -- How a set of pairs stays indexed.
-use Rattle.std.proofs.Common.{◌≡◌, ◌⊎◌, ◌^◌, negsuc, to_z, of_z, w64, inl, inr, ℕ, ◌*◌, ◌/◌, ◌%◌, ◌<◌, ◌≤◌, ◌+◌, List, [], ◌∷◌, ◌++◌, Bool, true, false, ◌||◌, true≢false, ℤ, pos, neg_ℤ, unsigned_abs, ◌+ℤ◌, ◌≤ℤ◌, ◌<ℤ◌, arith, ap, ap₂, subst, sym, ◌∙◌, refl}
+use Rattle.std.proofs.Common.{◌≡◌, ◌⊎◌, ◌^◌, negsuc, to_z, of_z, w64, inl, inr, ℕ, ◌*◌, ◌/◌, ◌%◌, ◌<◌, ◌≤◌, ◌+◌, List, [], ◌∷◌, ◌++◌, Bool, true, false, ◌||◌, true≢false, ℤ, pos, neg_ℤ, unsigned_abs, ◌+ℤ◌, ◌≤ℤ◌, ◌<ℤ◌, arith, ap, ap₂, subst, sym, ◌∙◌, refl, append_assoc}
 use Rattle.std.specs.Prelude.{not, if◌then◌else◌, Result, Ok, Err, IfOk, OnErr}
 use Rattle.std.proofs.lemmas.Int.{ints}
+use Rattle.std.specs.List.Sorted.{IsPermutation}
+use Rattle.std.proofs.lemmas.List.Sorted.{list_any-IsPermutation}
 use Rattle.std.proofs.lemmas.List.Folds.{list_any-append}
 use Rattle.std.proofs.lemmas.Nat.{div-mul-add, mod-mul-add, mul-add-lt}
 use Rattle.indexmap.specs.IndexSet.{insert_key}
@@ -9,7 +11,8 @@ use Rattle.srs_num.specs.declared.pairs.V2.{V2}
 use Rattle.srs_map.specs.Step.{pair, IsNarrow}
 use Rattle.srs_path.proofs.WitnessLemmas.{pair_eq, pair-decides}
 use Rattle.srs_wit.specs.Marks.{is_marked, Marks}
-use Rattle.srs_wit.specs.PairSets.{has_pair, IsNear, IsNumber, AreIndexed, number_of}
+use Rattle.srs_wit.proofs.Permuting.{moved_last}
+use Rattle.srs_wit.specs.PairSets.{has_pair, with_pair, IsNear, IsNumber, AreIndexed, number_of}
 
 -- ---- the numbers of near pairs
 row_within : (s : ℕ) (a : ℤ) → pos 0 ≤ℤ a → a <ℤ pos s → unsigned_abs a < s
@@ -148,3 +151,43 @@ module _ (side : ℕ) (vs : List V2) (words : List ℕ) (far : List V2) (u : V2)
             let p : ws ≡ vs ++ u ∷ [] = e ∙ ap (λ (z : Bool). if z then vs ++ u ∷ [] else vs) (a ∙ ap not t) in
             let q : more ≡ far ++ u ∷ [] = f ∙ ap (λ (z : Bool). if z then far else far ++ u ∷ []) t in
             subst (λ (y : List V2). AreIndexed side y words more) (sym p) (subst (λ (y : List V2). AreIndexed side (vs ++ u ∷ []) words y) (sym q) indexed_more)
+
+-- ---- the pairs are those that were followed and those that wait
+push_over : (followed waiting : List V2) (u : V2) (b : Bool) → followed ++ (if b then waiting ++ u ∷ [] else waiting) ≡ (if b then (followed ++ waiting) ++ u ∷ [] else followed ++ waiting)
+push_over followed waiting u true = sym (append_assoc followed waiting (u ∷ []))
+push_over followed waiting u false = refl
+
+module _ (side : ℕ) (followed waiting : List V2) (words : List ℕ) (far : List V2) (u : V2) (x : AreIndexed side (followed ++ waiting) words far) where
+  pub waits_near : (n : ℕ) (new : List ℕ) → IsNumber side u n → Marks words n new → AreIndexed side (followed ++ (waiting ++ u ∷ [])) new far
+  waits_near n new num m =
+      subst (λ (y : List V2). AreIndexed side y new far) (append_assoc followed waiting (u ∷ []))
+      (indexed_near side (followed ++ waiting) words far u x n new num m)
+
+  module _ (away : IsNear side u → ⊥) {E : Type 0} where
+    pub waits_far : (r : Result Bool E) (wait more : List V2)
+        → IfOk r (λ added. added ≡ not (has_pair far u)) → IfOk r (λ added. more ≡ insert_key pair_eq far u) → IfOk r (λ added. wait ≡ (if added then waiting ++ u ∷ [] else waiting))
+        → OnErr r (more ≡ far) → OnErr r (wait ≡ waiting) → AreIndexed side (followed ++ wait) words more
+    waits_far (Err y) wait more a f e g h = indexed_far side (followed ++ waiting) words far u x away {E = E} (Err y) (followed ++ wait) more a f e g (ap (λ (z : List V2). followed ++ z) h)
+    waits_far (Ok added) wait more a f e g h =
+        indexed_far side (followed ++ waiting) words far u x away {E = E} (Ok added) (followed ++ wait) more a f (ap (λ (z : List V2). followed ++ z) e ∙ push_over followed waiting u added) g h
+
+  -- what one insertion far away makes of those that wait
+  pub with_far : (away : IsNear side u → ⊥) (added : Bool) (wait : List V2) → added ≡ not (has_pair far u) → wait ≡ (if added then waiting ++ u ∷ [] else waiting) → wait ≡ with_pair followed waiting u
+  with_far away added wait a e = e ∙ ap (λ (z : Bool). if z then waiting ++ u ∷ [] else waiting) (a ∙ ap not (sym (x.apart u away))) ∙ turned (has_pair (followed ++ waiting) u)
+    where
+      turned : (b : Bool) → (if not b then waiting ++ u ∷ [] else waiting) ≡ (if b then waiting else waiting ++ u ∷ [])
+      turned true = refl
+      turned false = refl
+
+-- the marks stay where the pair that waited last is followed
+pub indexed_next : (side : ℕ) (followed waiting new rest : List V2) (words : List ℕ) (far : List V2) (w : V2) → waiting ≡ rest ++ w ∷ [] → new ≡ followed ++ w ∷ []
+    → AreIndexed side (followed ++ waiting) words far → AreIndexed side (new ++ rest) words far
+indexed_next side followed waiting new rest words far w e f x =
+    let p : IsPermutation (followed ++ waiting) (new ++ rest) =
+    subst (λ (y : List V2). IsPermutation (followed ++ y) (new ++ rest)) (sym e) (subst (λ (y : List V2). IsPermutation (followed ++ (rest ++ w ∷ [])) (y ++ rest)) (sym f) (moved_last followed rest w)) in
+    record {
+      bounded = x.bounded;
+      room = x.room;
+      near = λ v h. sym (list_any-IsPermutation (pair_eq v) (followed ++ waiting) (new ++ rest) p) ∙ x.near v h;
+      apart = λ v h. sym (list_any-IsPermutation (pair_eq v) (followed ++ waiting) (new ++ rest) p) ∙ x.apart v h;
+    }

@@ -2,6 +2,7 @@ pub mod Mirrored
 pub mod BothSides
 pub mod Adding
 pub mod Following
+pub mod Permuting
 pub mod Closing
 pub mod Sorting
 pub mod Marking

@@ -9,7 +9,6 @@ use Rattle.std.proofs.lemmas.List.Elements.{Contains-append_left, Contains-appen
 use Rattle.std.proofs.lemmas.List.Quantifiers.{all_pairs_push}
 use Rattle.std.proofs.lemmas.Map.Views.{Contains-from_any}
 use Rattle.std.proofs.lemmas.List.Elements.{Contains-get_or}
-use Rattle.indexmap.specs.IndexSet.{insert_key}
 use Rattle.srs_num.specs.declared.pairs.V2.{V2}
 use Rattle.srs_num.specs.Points.{IsWithin}
 use Rattle.srs_num.proofs.Linear.{linear}
@@ -18,6 +17,7 @@ use Rattle.srs_cell.specs.Spans.{IsCount, pair_from}
 use Rattle.srs_path.proofs.WitnessLemmas.{pair_eq, pair-decides}
 use Rattle.srs_wit.specs.declared.runs.Run.{Run}
 use Rattle.srs_wit.specs.Runs.{run_pair, IsRunOf, turned, AddsAll}
+use Rattle.srs_wit.specs.PairSets.{has_pair, with_pair}
 use Rattle.srs_wit.proofs.Adding.{contains_one, absent_pair}
 
 -- ---- the pairs of a run are added one after another
@@ -64,16 +64,6 @@ module _ (old : List V2) (f : ℕ → V2) (k : ℕ) (now waited wait : List V2) 
     different = λ h. subst (AllPairs ◌≢◌) (sym e) (all_pairs_push ◌≢◌ now v (a.different h) (λ j d lt same. absent_pair now v t (subst (Contains now) same (Contains-get_or now j d lt))));
     few = let few = a.few in omega (arith, ap length e, length-append now (v ∷ []));
   }
-
--- what an insertion of v gives, by what it answered
-there : (now : List V2) (v : V2) → list_any (pair_eq v) now ≡ true → Contains now v
-there now v t = Contains-from_any (λ x y. (pair-decides x y).0) v now t
-
-kept : (now new : List V2) (v : V2) → new ≡ insert_key pair_eq now v → list_any (pair_eq v) now ≡ true → new ≡ now
-kept now new v e t = e ∙ ap (λ (x : Bool). if x then now else now ++ v ∷ []) t
-
-grown : (now new : List V2) (v : V2) → new ≡ insert_key pair_eq now v → list_any (pair_eq v) now ≡ false → new ≡ now ++ v ∷ []
-grown now new v e t = e ∙ ap (λ (x : Bool). if x then now else now ++ v ∷ []) t
 
 -- ---- the pairs of a run are those of the span
 module _ (w : V2) (low high : ℤ) (n : ℕ) (r : Run) (c : IsCount low high n) where
@@ -143,15 +133,20 @@ turned_pair r k = by_side r.back
     by_side true = both _ _ _ _ (zero_less r.a) (up r.first (pos k))
     by_side false = both _ _ _ _ (zero_less r.a) (down r.first (pos k))
 
--- one insertion more
-module _ (old : List V2) (f : ℕ → V2) (k : ℕ) (now waited wait : List V2) (a : AddsAll old f k now waited wait) (v : V2) (is : v ≡ f k) (new waiting : List V2) (e : new ≡ insert_key pair_eq now v) where
-  pub run_known : list_any (pair_eq v) now ≡ true → waiting ≡ wait → AddsAll old f (k + 1) new waited waiting
-  run_known t w =
-      subst (λ (x : List V2). AddsAll old f (k + 1) x waited waiting) (sym (kept now new v e t))
-      (subst (λ (x : List V2). AddsAll old f (k + 1) now waited x) (sym w) (adds_known old f k now waited wait a v is (there now v t)))
-
-  pub run_fresh : list_any (pair_eq v) now ≡ false → waiting ≡ wait ++ v ∷ [] → AddsAll old f (k + 1) new waited waiting
-  run_fresh t w = adds_fresh old f k now waited wait a v is new waiting t (grown now new v e t) w
+-- one pair more
+module _ (old : List V2) (f : ℕ → V2) (k : ℕ) (followed waited wait : List V2) (a : AddsAll old f k (followed ++ wait) waited wait) (v : V2) (is : v ≡ f k) where
+  pub run_more : (waiting : List V2) → waiting ≡ with_pair followed wait v → AddsAll old f (k + 1) (followed ++ waiting) waited waiting
+  run_more waiting e = by_test (has_pair (followed ++ wait) v) refl
+    where
+      by_test : (b : Bool) → has_pair (followed ++ wait) v ≡ b → AddsAll old f (k + 1) (followed ++ waiting) waited waiting
+      by_test true t =
+          let s : waiting ≡ wait = e ∙ ap (λ (x : Bool). if x then wait else wait ++ v ∷ []) t in
+          subst (λ (x : List V2). AddsAll old f (k + 1) (followed ++ x) waited x) (sym s)
+          (adds_known old f k (followed ++ wait) waited wait a v is (Contains-from_any (λ x y. (pair-decides x y).0) v (followed ++ wait) t))
+      by_test false t =
+          let s : waiting ≡ wait ++ v ∷ [] = e ∙ ap (λ (x : Bool). if x then wait else wait ++ v ∷ []) t in
+          adds_fresh old f k (followed ++ wait) waited wait a v is (followed ++ waiting) waiting t
+          (ap (λ (x : List V2). followed ++ x) s ∙ sym (append_assoc followed wait (v ∷ []))) s
 
 -- the first of a run is an end of the span
 pub first_within : (m : ℕ) (low high first : ℤ) (back : Bool) → first ≡ (if back then high else low) → IsWithin m low → IsWithin m high → IsWithin m first

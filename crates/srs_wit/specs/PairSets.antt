@@ -1,5 +1,5 @@
 -- How a set of pairs is looked up.
-use Rattle.std.specs.Prelude.{◌≡◌, ℕ, ◌+◌, ◌*◌, ◌<◌, ◌≤◌, ◌^◌, pos, neg_ℤ, ◌+ℤ◌, ◌≤ℤ◌, ◌<ℤ◌, unsigned_abs, Bool, List, length}
+use Rattle.std.specs.Prelude.{◌≡◌, ℕ, ◌+◌, ◌*◌, ◌<◌, ◌≤◌, ◌^◌, pos, neg_ℤ, ◌+ℤ◌, ◌≤ℤ◌, ◌<ℤ◌, unsigned_abs, Bool, List, [], ◌∷◌, ◌++◌, if◌then◌else◌, length}
 use Rattle.std.specs.List.{list_any}
 use Rattle.srs_num.specs.declared.pairs.V2.{V2}
 use Rattle.srs_path.proofs.WitnessLemmas.{pair_eq}
@@ -8,6 +8,29 @@ use Rattle.srs_wit.specs.Marks.{is_marked}
 -- whether v is one of the pairs
 abbrev pub has_pair : List V2 → V2 → Bool
 has_pair vs v = list_any (pair_eq v) vs
+
+-- those that wait, with v where it is none of the pairs
+abbrev pub with_pair : List V2 → List V2 → V2 → List V2
+with_pair followed waiting v = if has_pair (followed ++ waiting) v then waiting else waiting ++ v ∷ []
+
+-- the pairs that were followed, and those that wait for it
+pub record Lists : Type 0 where
+  pub followed : List V2
+  pub waiting : List V2
+
+-- all of them
+abbrev pub all_of : Lists → List V2
+all_of s = s.followed ++ s.waiting
+
+-- v was added to those that wait, where it is new
+pub record HasOneMore (old : Lists) (v : V2) (new : Lists) : Type 0 where
+  pub followed : new.followed ≡ old.followed
+  pub waiting : new.waiting ≡ with_pair old.followed old.waiting v
+
+-- w, which waited last, was followed
+pub record IsNext (old : Lists) (w : V2) (new : Lists) : Type 0 where
+  pub waited : old.waiting ≡ new.waiting ++ w ∷ []
+  pub followed : new.followed ≡ old.followed ++ w ∷ []
 
 -- the first entry of v is from 0 on and below the side, and the second one from its opposite on and
 -- below it

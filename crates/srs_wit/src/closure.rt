@@ -10,6 +10,7 @@ ghost use Rattle.srs_wit.specs.Halves.{AreNarrow, count_both, with_opposites};
 ghost use Rattle.srs_num.specs.Points.{IsWithin};
 ghost use Rattle.srs_cell.specs.Spans.{IsCount};
 ghost use Rattle.srs_wit.specs.Spans.{ArePairsNarrow};
+ghost use Rattle.srs_wit.specs.PairSets.{all_of};
 ghost use Rattle.srs_wit.specs.Search.{AreHalf, AreFound, Adds, AddsLinks, Extends, IsClosedAt};
 ghost use Rattle.srs_wit.specs.Search.{HasUnits, AreAll, IsStop};
 ghost use Rattle.srs_path.specs.declared.limits.TheConstants.{MOST_WITNESSES};
@@ -23,14 +24,13 @@ use srs_cell::{Cell, Span};
 use srs_num::{NoMemory, Pairs, V2};
 use std::alloc::Global;
 
-// The witnesses that were found after (0,0), in the order by a and then by b; whether that is one
-// of them; and those whose links weren't followed yet, the newest last. Each stands for its mirror
-// image too: -w is a witness where w is, since the links of -w are the mirrored links of w.
+// The witnesses that were found after (0,0), in the order by a and then by b, where those whose
+// links weren't followed yet wait; and whether (0,0) is one. Each stands for its mirror image too:
+// -w is a witness where w is, since the links of -w are the mirrored links of w.
 #[derive(Drop)]
 struct Search {
     found: PairSet,
     origin: bool,
-    waiting: Vec<V2>,
 }
 
 // Why a search stops before its end.
@@ -77,34 +77,32 @@ impl Search {
     // Nothing found yet. There is room for as many as the bound allows, up to a table that costs
     // little to make.
     fn new(alloc: Global, bound: u32) -> Result<Search, NoMemory>
-        ensures found { IfOk result (λ search. search.found ≡ []) }
+        ensures followed { IfOk result (λ search. search.found.followed ≡ []) }
+        ensures waiting { IfOk result (λ search. search.found.waiting ≡ []) }
         ensures origin { IfOk result (λ search. search.origin ≡ false) }
-        ensures waiting { IfOk result (λ search. search.waiting.items ≡ []) }
     {
         let room = (bound as usize / 2 + 1).min(ROOM);
         let found = PairSet::new(alloc, room, side_of(bound))?;
         Ok(Search {
             found,
             origin: false,
-            waiting: Vec::with_capacity(alloc, room)?,
         })
     }
 
     // Begins anew, with nothing found.
     fn clear(&mut self)
-        ensures found { self.new.found ≡ [] }
+        ensures followed { self.new.found.followed ≡ [] }
+        ensures waiting { self.new.found.waiting ≡ [] }
         ensures origin { self.new.origin ≡ false }
-        ensures waiting { self.new.waiting.items ≡ [] }
     {
         self.found.clear();
         self.origin = false;
-        self.waiting.clear();
     }
 
     // How many witnesses were found, on both sides of (0,0).
     fn count(&self) -> u64
-        requires { count_both self.now.found self.now.origin ≤ 2 ^ 34 }
-        ensures { result ≡ count_both self.now.found self.now.origin }
+        requires { count_both (all_of self.now.found) self.now.origin ≤ 2 ^ 34 }
+        ensures { result ≡ count_both (all_of self.now.found) self.now.origin }
     {
         let half = self.found.len() as u64;
         if self.origin { 2 * half + 1 } else { 2 * half }
@@ -112,20 +110,22 @@ impl Search {
 
     // The first `n` of them.
     fn first(&self, alloc: Global, n: u64) -> Result<Pairs, NoMemory>
-        requires narrow { AreNarrow self.now.found }
-        requires few { n ≤ count_both self.now.found self.now.origin }
-        ensures { IfOk result (λ ps. ps ≡ take n (with_opposites self.now.found self.now.origin)) }
+        requires narrow { AreNarrow (all_of self.now.found) }
+        requires few { n ≤ count_both (all_of self.now.found) self.now.origin }
+        ensures { IfOk result (λ ps. ps ≡ take n (with_opposites (all_of self.now.found)
+            self.now.origin)) }
     {
-        let all = with_opposites(alloc, self.found.as_slice(), self.origin)?;
+        let half = self.found.to_vec(alloc)?;
+        let all = with_opposites(alloc, &half, self.origin)?;
         Pairs::from_slice(alloc, &all[..n as usize])
     }
 
     // Whether the search goes on: those that were found aren't more than the bound.
     fn within(&self, bound: u32) -> Result<(), Stop>
-        requires { count_both self.now.found self.now.origin ≤ 2 ^ 34 }
-        ensures few { OnOk result (count_both self.now.found self.now.origin ≤ bound) }
-        ensures stop { (R : Area) → AreHalf R self.now.found self.now.origin → IfErr result
-            (IsStop R bound self.now.found self.now.origin) }
+        requires { count_both (all_of self.now.found) self.now.origin ≤ 2 ^ 34 }
+        ensures few { OnOk result (count_both (all_of self.now.found) self.now.origin ≤ bound) }
+        ensures stop { (R : Area) → AreHalf R (all_of self.now.found) self.now.origin → IfErr result
+            (IsStop R bound (all_of self.now.found) self.now.origin) }
     {
         if self.count() > bound as u64 {
             return Err(Stop::Over);
@@ -135,18 +135,19 @@ impl Search {
 
     // The refusal that shows one more of them than the bound.
     fn excess(&self, alloc: Global, bound: u32) -> WitErr
-        requires narrow { AreNarrow self.now.found }
-        requires many { bound < count_both self.now.found self.now.origin }
-        ensures { (R : Area) → AreHalf R self.now.found self.now.origin → IsExcess R bound result }
+        requires narrow { AreNarrow (all_of self.now.found) }
+        requires many { bound < count_both (all_of self.now.found) self.now.origin }
+        ensures { (R : Area) → AreHalf R (all_of self.now.found) self.now.origin → IsExcess R bound
+            result }
     {
         too_many(self.first(alloc, bound as u64 + 1), bound)
     }
 
     // The refusal that shows why the search stopped.
     fn refusal(&self, alloc: Global, bound: u32, stop: Stop) -> WitErr
-        requires { (R : Area) × IsStop R bound self.now.found self.now.origin stop }
-        ensures { (R : Area) → IsStop R bound self.now.found self.now.origin stop → IsExcess R bound
-            result }
+        requires { (R : Area) × IsStop R bound (all_of self.now.found) self.now.origin stop }
+        ensures { (R : Area) → IsStop R bound (all_of self.now.found) self.now.origin stop →
+            IsExcess R bound result }
     {
         match stop {
             Stop::Over => self.excess(alloc, bound),
@@ -161,30 +162,27 @@ impl Search {
     // Adds a witness, which stands for the one on the other side too.
     fn add(&mut self, v: V2) -> Result<(), NoMemory>
         requires { IsNarrow v }
-        ensures { OnOk result (Adds self.old.found self.old.origin v self.new.found self.new.origin
-            self.old.waiting.items self.new.waiting.items) }
+        ensures { OnOk result (Adds (all_of self.old.found) self.old.origin v
+            (all_of self.new.found) self.new.origin self.old.found.waiting self.new.found.waiting) }
     {
         let Some(u) = upper(v) else {
             self.origin = true;
             return Ok(());
         };
-        if !self.found.insert(u)? {
-            return Ok(());
-        }
-        self.waiting.push(u)?;
-        Ok(())
+        self.found.insert(u)
     }
 
     // Adds the units.
     fn add_units(&mut self, bound: u32) -> Result<(), Stop>
-        requires found { self.old.found ≡ [] }
+        requires followed { self.old.found.followed ≡ [] }
+        requires waiting { self.old.found.waiting ≡ [] }
         requires origin { self.old.origin ≡ false }
-        requires waiting { self.old.waiting.items ≡ [] }
-        ensures found { (R : Area) → OnOk result (Extends R [] false self.new.found self.new.origin
-            [] self.new.waiting.items) }
-        ensures few { OnOk result (count_both self.new.found self.new.origin ≤ bound) }
-        ensures units { OnOk result (HasUnits self.new.found self.new.origin) }
-        ensures stop { (R : Area) → IfErr result (IsStop R bound self.new.found self.new.origin) }
+        ensures found { (R : Area) → OnOk result (Extends R [] false (all_of self.new.found)
+            self.new.origin [] self.new.found.waiting) }
+        ensures few { OnOk result (count_both (all_of self.new.found) self.new.origin ≤ bound) }
+        ensures units { OnOk result (HasUnits (all_of self.new.found) self.new.origin) }
+        ensures stop { (R : Area) → IfErr result (IsStop R bound (all_of self.new.found)
+            self.new.origin) }
     {
         let Ok(()) = self.add(V2 { a: 1, b: 0 }) else {
             return Err(Stop::NoMemory);
@@ -201,8 +199,9 @@ impl Search {
         requires low { IsWithin (2 ^ 41) span.low }
         requires count { IsCount span.low span.high n }
         requires narrow { ArePairsNarrow w span.low span.high }
-        ensures { OnOk result (AddsLinks self.old.found self.old.origin w span.low span.high n
-            self.new.found self.new.origin self.old.waiting.items self.new.waiting.items) }
+        ensures { OnOk result (AddsLinks (all_of self.old.found) self.old.origin w span.low
+            span.high n (all_of self.new.found) self.new.origin self.old.found.waiting
+            self.new.found.waiting) }
     {
         for k in 0..n {
             self.add(span.pair(w, k))?;
@@ -221,29 +220,33 @@ impl Search {
         requires high { IsWithin (2 ^ 41) span.high }
         requires count { IsCount span.low span.high n }
         requires narrow { ArePairsNarrow w span.low span.high }
-        ensures { OnOk result (AddsLinks self.old.found self.old.origin w span.low span.high n
-            self.new.found self.new.origin self.old.waiting.items self.new.waiting.items) }
+        ensures { OnOk result (AddsLinks (all_of self.old.found) self.old.origin w span.low
+            span.high n (all_of self.new.found) self.new.origin self.old.found.waiting
+            self.new.found.waiting) }
     {
         if w.b == 0 {
             return self.add_center_row(w, span, n);
         }
         let run = run_of(w, span, n);
         if w.b > 0 {
-            return self.found.add_run(run, &mut self.waiting);
+            return self.found.add_run(run);
         }
-        self.found.add_run(run.mirrored(), &mut self.waiting)
+        self.found.add_run(run.mirrored())
     }
 
     // Adds all that a witness links to. A span longer than the bound shows too many witnesses by itself.
     fn add_links(&mut self, cell: &Cell, bound: u32, w: V2) -> Result<(), Stop>
         requires narrow { IsNarrow w }
         requires witness { IsWitness cell.now w }
-        requires found { AreFound cell.now bound self.old.found self.old.origin }
-        ensures extends { OnOk result (Extends cell.now self.old.found self.old.origin
-            self.new.found self.new.origin self.old.waiting.items self.new.waiting.items) }
-        ensures few { OnOk result (count_both self.new.found self.new.origin ≤ bound) }
-        ensures closed { OnOk result (IsClosedAt cell.now self.new.found self.new.origin w) }
-        ensures stop { IfErr result (IsStop cell.now bound self.new.found self.new.origin) }
+        requires found { AreFound cell.now bound (all_of self.old.found) self.old.origin }
+        ensures extends { OnOk result (Extends cell.now (all_of self.old.found) self.old.origin
+            (all_of self.new.found) self.new.origin self.old.found.waiting
+            self.new.found.waiting) }
+        ensures few { OnOk result (count_both (all_of self.new.found) self.new.origin ≤ bound) }
+        ensures closed { OnOk result (IsClosedAt cell.now (all_of self.new.found) self.new.origin
+            w) }
+        ensures stop { IfErr result (IsStop cell.now bound (all_of self.new.found)
+            self.new.origin) }
     {
         let span = cell.links(w);
         let n = span.count();
@@ -261,26 +264,30 @@ impl Search {
 
     // Finds all witnesses. The newest pair goes first.
     fn find_all(&mut self, cell: &Cell, bound: u32) -> Result<(), Stop>
-        requires found { self.old.found ≡ [] }
+        requires followed { self.old.found.followed ≡ [] }
+        requires waiting { self.old.found.waiting ≡ [] }
         requires origin { self.old.origin ≡ false }
-        requires waiting { self.old.waiting.items ≡ [] }
-        ensures all { OnOk result (AreAll cell.now bound self.new.found self.new.origin) }
-        ensures stop { IfErr result (IsStop cell.now bound self.new.found self.new.origin) }
+        ensures all { OnOk result (AreAll cell.now bound (all_of self.new.found) self.new.origin) }
+        ensures stop { IfErr result (IsStop cell.now bound (all_of self.new.found)
+            self.new.origin) }
     {
         self.add_units(bound)?;
-        while let Some(w) = self.waiting.pop() {
-            self.add_links(cell, bound, w)?;
+        loop {
+            match self.found.next() {
+                Ok(Some(w)) => self.add_links(cell, bound, w)?,
+                Ok(None) => return Ok(()),
+                Err(NoMemory) => return Err(Stop::NoMemory),
+            }
         }
-        Ok(())
     }
 
     // All the witnesses, ascending: the half is sorted, and the other half is its mirror image.
     fn ascending(&self, alloc: Global) -> Result<Vec<V2>, NoMemory>
-        requires { AreNarrow self.now.found }
-        ensures { (R : Area) (W : ℕ) → AreAll R W self.now.found self.now.origin → IfOk result
-            (λ all. AreAllWitnesses R all.items) }
+        requires { AreNarrow (all_of self.now.found) }
+        ensures { (R : Area) (W : ℕ) → AreAll R W (all_of self.now.found) self.now.origin →
+            IfOk result (λ all. AreAllWitnesses R all.items) }
     {
-        let mut half = Vec::from_slice(alloc, self.found.as_slice())?;
+        let mut half = self.found.to_vec(alloc)?;
         half.sort_unstable();
         with_opposites(alloc, &half, self.origin)
     }

@@ -5,7 +5,8 @@ ghost use Rattle.indexmap.specs.IndexSet.{insert_key};
 ghost use Rattle.srs_map.specs.Step.{IsNarrow};
 ghost use Rattle.srs_path.proofs.WitnessLemmas.{pair_eq};
 ghost use Rattle.srs_num.specs.Points.{IsWithin};
-ghost use Rattle.srs_wit.specs.PairSets.{has_pair, IsNear, IsNumber, AreIndexed};
+ghost use Rattle.srs_wit.specs.PairSets.{has_pair, with_pair, IsNear, IsNumber, AreIndexed};
+ghost use Rattle.srs_wit.specs.PairSets.{all_of, IsNext, HasOneMore};
 ghost use Rattle.srs_wit.specs.Runs.{run_pair, AddsAll};
 
 use crate::marks::MarkTable;
@@ -15,10 +16,12 @@ use srs_num::{NoMemory, V2};
 use std::alloc::Global;
 use std::marker::Model;
 
-// Different pairs, seen as the list of them in the order in which they came.
+// Different pairs, seen as two lists: those that were followed, and those that wait for it, the
+// newest last. A pair is put down twice only if its turn comes.
 #[derive(Drop)]
 pub(crate) struct PairSet {
-    items: Vec<V2>,
+    followed: Vec<V2>,
+    waiting: Vec<V2>,
     // The first entry of a near pair is from 0 on and below this, and the second one from its
     // opposite on and below it.
     side: usize,
@@ -29,15 +32,15 @@ pub(crate) struct PairSet {
 }
 
 impl Model for PairSet {
-    ghost use Rattle.std.specs.Prelude.{List};
-    ghost use Rattle.srs_num.specs.declared.pairs.V2.{V2};
-    ghost use Rattle.srs_wit.specs.PairSets.{AreIndexed};
+    ghost use Rattle.std.specs.Prelude.{◌++◌};
+    ghost use Rattle.srs_wit.specs.PairSets.{AreIndexed, Lists};
 
-    ghost Value = { List V2 };
+    ghost Value = { Lists };
 
-    ghost view = { λ s. s.items.items };
+    ghost view = { λ s. record { followed = s.followed.items; waiting = s.waiting.items } };
 
-    ghost invariant = { λ s. AreIndexed s.side s.items.items s.near.words.items s.far.keys };
+    ghost invariant = { λ s. AreIndexed s.side (s.followed.items ++ s.waiting.items)
+        s.near.words.items s.far.keys };
 }
 
 // The number of the pair, row by row, or `None` where it isn't near.
@@ -55,22 +58,22 @@ fn number(side: usize, v: V2) -> Option<usize>
     Some(row * (2 * side) + column)
 }
 
-// Adds the pair to those far away and to the list, unless it is among those far away.
+// Adds the pair to those far away and to those that wait, unless it is among those far away.
 #[inline(never)]
-fn insert_far(items: &mut Vec<V2>, far: &mut IndexSet<V2>, v: V2) -> Result<bool, NoMemory>
+fn insert_far(waiting: &mut Vec<V2>, far: &mut IndexSet<V2>, v: V2) -> Result<bool, NoMemory>
     ensures added { IfOk result (λ added. added ≡ not (has_pair far.old.keys v)) }
     ensures far { IfOk result (λ added. far.new.keys ≡ insert_key pair_eq far.old.keys v) }
-    ensures items { IfOk result (λ added. items.new.items ≡
-        (if added then items.old.items ++ v ∷ [] else items.old.items)) }
+    ensures waiting { IfOk result (λ added. waiting.new.items ≡
+        (if added then waiting.old.items ++ v ∷ [] else waiting.old.items)) }
     ensures err_far { OnErr result (far.new.keys ≡ far.old.keys) }
-    ensures err_items { OnErr result (items.new.items ≡ items.old.items) }
+    ensures err_waiting { OnErr result (waiting.new.items ≡ waiting.old.items) }
 {
     match far.insert(v) {
         Ok(true) => {}
         Ok(false) => return Ok(false),
         Err(_) => return Err(NoMemory),
     }
-    match items.push(v) {
+    match waiting.push(v) {
         Ok(()) => Ok(true),
         Err(_) => {
             let _ = far.pop();
@@ -79,56 +82,58 @@ fn insert_far(items: &mut Vec<V2>, far: &mut IndexSet<V2>, v: V2) -> Result<bool
     }
 }
 
-// Adds the pair, and says whether it is new.
+// Adds the pair to those that wait, and says whether it is new.
 #[inline(always)]
 fn insert(
-    items: &mut Vec<V2>,
+    followed: &Vec<V2>,
+    waiting: &mut Vec<V2>,
     near: &mut MarkTable,
     far: &mut IndexSet<V2>,
     side: usize,
     v: V2,
 ) -> Result<bool, NoMemory>
-    requires indexed { AreIndexed side items.old.items near.old.words.items far.old.keys }
+    requires indexed { AreIndexed side (followed.now.items ++ waiting.old.items)
+        near.old.words.items far.old.keys }
     requires narrow { IsNarrow v }
-    ensures indexed { AreIndexed side items.new.items near.new.words.items far.new.keys }
-    ensures added { IfOk result (λ added. added ≡ not (has_pair items.old.items v)) }
-    ensures pairs { IfOk result (λ added. items.new.items ≡ insert_key pair_eq items.old.items v) }
+    ensures indexed { AreIndexed side (followed.now.items ++ waiting.new.items)
+        near.new.words.items far.new.keys }
+    ensures waiting { IfOk result (λ added. waiting.new.items ≡
+        with_pair followed.now.items waiting.old.items v) }
 {
     let Some(k) = number(side, v) else {
-        return insert_far(items, far, v);
+        return insert_far(waiting, far, v);
     };
     if near.has(k) {
         return Ok(false);
     }
-    items.push(v)?;
+    waiting.push(v)?;
     near.mark(k);
     Ok(true)
 }
 
-// Adds the pairs of the run. Those that are new wait too.
+// Adds the pairs of the run to those that wait, unless they are there.
 #[inline(always)]
 fn add_run(
-    items: &mut Vec<V2>,
+    followed: &Vec<V2>,
+    waiting: &mut Vec<V2>,
     near: &mut MarkTable,
     far: &mut IndexSet<V2>,
     side: usize,
     run: Run,
-    waiting: &mut Vec<V2>,
 ) -> Result<(), NoMemory>
-    requires indexed { AreIndexed side items.old.items near.old.words.items far.old.keys }
+    requires indexed { AreIndexed side (followed.now.items ++ waiting.old.items)
+        near.old.words.items far.old.keys }
     requires first { IsWithin (2 ^ 41) run.first }
     requires few { run.count ≤ 2 ^ 43 }
     requires narrow { (k : ℕ) → k < run.count → IsNarrow (run_pair run k) }
-    ensures indexed { AreIndexed side items.new.items near.new.words.items far.new.keys }
-    ensures added { OnOk result (AddsAll items.old.items (run_pair run) run.count items.new.items
-        waiting.old.items waiting.new.items) }
+    ensures indexed { AreIndexed side (followed.now.items ++ waiting.new.items)
+        near.new.words.items far.new.keys }
+    ensures added { OnOk result (AddsAll (followed.now.items ++ waiting.old.items) (run_pair run)
+        run.count (followed.now.items ++ waiting.new.items) waiting.old.items waiting.new.items) }
 {
     let step = run.step();
     for k in 0..run.count {
-        let v = run.pair(step, k);
-        if insert(items, near, far, side, v)? {
-            waiting.push(v)?;
-        }
+        insert(followed, waiting, near, far, side, run.pair(step, k))?;
     }
     Ok(())
 }
@@ -147,11 +152,13 @@ impl PairSet {
     // No pair, and room for so many. Pairs below the side are looked up fast.
     pub(crate) fn new(alloc: Global, room: usize, side: usize) -> Result<PairSet, NoMemory>
         requires { side ≤ 2 ^ 10 }
-        ensures { IfOk result (λ set. set ≡ []) }
+        ensures followed { IfOk result (λ set. set.followed ≡ []) }
+        ensures waiting { IfOk result (λ set. set.waiting ≡ []) }
     {
         let near = MarkTable::new(alloc, 2 * side * side)?;
         Ok(PairSet {
-            items: Vec::with_capacity(alloc, room)?,
+            followed: Vec::with_capacity(alloc, room)?,
+            waiting: Vec::with_capacity(alloc, room)?,
             side,
             near,
             far: IndexSet::new(alloc),
@@ -160,66 +167,98 @@ impl PairSet {
 
     // Takes all of them out, and keeps the room.
     pub(crate) fn clear(&mut self)
-        ensures { self.new ≡ [] }
+        ensures followed { self.new.followed ≡ [] }
+        ensures waiting { self.new.waiting ≡ [] }
     {
-        self.items.clear();
+        self.followed.clear();
+        self.waiting.clear();
         self.near.clear();
         clear_far(&mut self.far);
     }
 
     // How many there are.
-    pub(crate) fn len(&self) -> usize
-        ensures { result ≡ length self.now }
-    {
-        self.items.len()
-    }
-
-    // All of them.
-    pub(crate) fn as_slice(&self) -> &[V2]
-        ensures { result.now ≡ self.now }
-    {
-        &self.items
-    }
-
-    // Adds the pairs of the run. Those that are new wait too.
     #[inline(always)]
-    pub(crate) fn add_run(&mut self, run: Run, waiting: &mut Vec<V2>) -> Result<(), NoMemory>
+    pub(crate) fn len(&self) -> usize
+        requires { length (all_of self.now) ≤ 2 ^ 34 }
+        ensures { result ≡ length (all_of self.now) }
+    {
+        self.followed.len() + self.waiting.len()
+    }
+
+    // All of them: first those that were followed.
+    pub(crate) fn to_vec(&self, alloc: Global) -> Result<Vec<V2>, NoMemory>
+        ensures { IfOk result (λ all. all.items ≡ all_of self.now) }
+    {
+        let mut all = Vec::from_slice(alloc, &self.followed)?;
+        all.extend_from_slice(&self.waiting)?;
+        Ok(all)
+    }
+
+    // The newest of those that wait. From now on it is one of those that were followed.
+    #[inline(always)]
+    pub(crate) fn next(&mut self) -> Result<Option<V2>, NoMemory>
+        ensures { IfOk result (λ next. MatchOption next
+            ((self.new ≡ self.old) × (self.old.waiting ≡ [])) (λ w. IsNext self.old w self.new)) }
+    {
+        let Some(w) = self.waiting.pop() else {
+            return Ok(None);
+        };
+        let Ok(()) = self.followed.push(w) else {
+            self.followed.clear();
+            self.waiting.clear();
+            self.near.clear();
+            clear_far(&mut self.far);
+            return Err(NoMemory);
+        };
+        Ok(Some(w))
+    }
+
+    // Adds the pairs of the run. Those that are new wait.
+    #[inline(always)]
+    pub(crate) fn add_run(&mut self, run: Run) -> Result<(), NoMemory>
         requires first { IsWithin (2 ^ 41) run.first }
         requires few { run.count ≤ 2 ^ 43 }
         requires narrow { (k : ℕ) → k < run.count → IsNarrow (run_pair run k) }
-        ensures { OnOk result (AddsAll self.old (run_pair run) run.count self.new waiting.old.items
-            waiting.new.items) }
+        ensures { OnOk result (AddsAll (all_of self.old) (run_pair run) run.count (all_of self.new)
+            self.old.waiting self.new.waiting) }
     {
         let side = self.side;
         // Two loops, each of which goes one way.
         if run.back {
             add_run(
-                &mut self.items,
+                &self.followed,
+                &mut self.waiting,
                 &mut self.near,
                 &mut self.far,
                 side,
                 run,
-                waiting,
             )
         } else {
             add_run(
-                &mut self.items,
+                &self.followed,
+                &mut self.waiting,
                 &mut self.near,
                 &mut self.far,
                 side,
                 run,
-                waiting,
             )
         }
     }
 
-    // Adds the pair, and says whether it is new.
-    pub(crate) fn insert(&mut self, v: V2) -> Result<bool, NoMemory>
+    // Adds the pair, which waits if it is new.
+    pub(crate) fn insert(&mut self, v: V2) -> Result<(), NoMemory>
         requires { IsNarrow v }
-        ensures added { IfOk result (λ added. added ≡ not (has_pair self.old v)) }
-        ensures pairs { IfOk result (λ added. self.new ≡ insert_key pair_eq self.old v) }
+        ensures { OnOk result (HasOneMore self.old v self.new) }
     {
         let side = self.side;
-        insert(&mut self.items, &mut self.near, &mut self.far, side, v)
+        insert(
+            &self.followed,
+            &mut self.waiting,
+            &mut self.near,
+            &mut self.far,
+            side,
+            v,
+        )?;
+        Ok(())
     }
 }

@@ -1,9 +1,10 @@
+use Rattle.std.proofs.Common.{◌++◌}
 use Rattle.srs_wit.specs.PairSets.{AreIndexed}
 use Rattle.srs_wit.specs.Runs.{run_pair, AddsAll}
 use Rattle.srs_wit.proofs.pair_set.add_run.Given as goal
 
 abbrev pub invariant-loop-k : goal.invariant-loop-k
 invariant-loop-k l = record {
-  indexed : AreIndexed l.side l.items.items l.near.words.items l.far.keys;
-  added : AddsAll l.fn.items.items (run_pair l.run) l.k l.items.items l.fn.waiting.items l.waiting.items;
+  indexed : AreIndexed l.side (l.followed.items ++ l.waiting.items) l.near.words.items l.far.keys;
+  added : AddsAll (l.followed.items ++ l.fn.waiting.items) (run_pair l.run) l.k (l.followed.items ++ l.waiting.items) l.fn.waiting.items l.waiting.items;
 }

@@ -1,15 +1,14 @@
-use Rattle.srs_wit.proofs.Adding.{adds_known, adds_new, upper_narrow, was_there, was_new}
+use Rattle.srs_wit.specs.PairSets.{all_of, HasOneMore}
+use Rattle.srs_wit.specs.Search.{Adds}
+use Rattle.srs_wit.proofs.Adding.{adds_one, on_ok_then, upper_narrow}
 use Rattle.srs_wit.proofs.closure.Search.add.Goals as goal
 
 pub insert-requires : goal.insert-requires
 insert-requires c = upper_narrow c.args.v c.in-Some.u c.in-Some.ensures c.requires
 
-pub returns-then-not-branch : goal.returns-then-not-branch
-returns-then-not-branch c =
-    adds_known c.args.self.now.found c.args.self.now.origin c.args.v c.in-Some.u c.insert.new.self c.in_ok-insert.ensures.pairs c.in-Some.ensures
-    c.args.self.now.waiting.items (was_there _ _ c.if-not-branch.true c.in_ok-insert.ensures.added) c.requires
-
 pub returns : goal.returns
 returns c =
-    adds_new c.args.self.now.found c.args.self.now.origin c.args.v c.in-Some.u c.insert.new.self c.in_ok-insert.ensures.pairs c.in-Some.ensures
-    (was_new _ _ c.if-not-branch.false c.in_ok-insert.ensures.added) c.args.self.now.waiting.items c.push.new.self.items c.requires c.in_ok-push.ensures.items
+    let s = c.args.self.now in
+    let new = c.insert.new.self in
+    on_ok_then c.insert.result (HasOneMore s.found c.in-Some.u new) (Adds (all_of s.found) s.origin c.args.v (all_of new) s.origin s.found.waiting new.waiting)
+    (adds_one s.found new s.origin c.args.v c.in-Some.u c.in-Some.ensures c.requires) c.insert.ensures

@@ -9,6 +9,7 @@ use Rattle.srs_wit.specs.Search.{AddsLinks}
 use Rattle.srs_wit.proofs.Adding.{on_ok_then}
 use Rattle.srs_wit.proofs.Running.{first_within}
 use Rattle.srs_wit.proofs.Following.{run_ahead, run_behind, run_narrow, run_added}
+use Rattle.srs_wit.specs.PairSets.{all_of}
 use Rattle.srs_wit.proofs.closure.Search.add_row.Goals as goal
 
 pub add_run-requires-clause-narrow : goal.add_run-requires-clause-narrow
@@ -30,14 +31,14 @@ returns-then-w-gt0 c =
     let high = c.args.span.high in
     let r = c.run_of-run.result in
     let is = c.run_of-run.ensures in
-    let new = c.add_run.new.self in
-    let waiting = c.add_run.new.waiting.items in
+    let new = all_of c.add_run.new.self in
+    let waiting = c.add_run.new.self.waiting in
     let h : pos 0 <ℤ w.b = omega (arith, ints) in
-    on_ok_then c.add_run.result (AddsAll s.found (run_pair r) r.count new s.waiting.items waiting)
-    (AddsLinks s.found s.origin w low high c.args.n new s.origin s.waiting.items waiting)
+    on_ok_then c.add_run.result (AddsAll (all_of s.found) (run_pair r) r.count new s.found.waiting waiting)
+    (AddsLinks (all_of s.found) s.origin w low high c.args.n new s.origin s.found.waiting waiting)
     (λ a R W wit found m.
-    run_added R W s.found s.origin w low high c.args.n wit found m c.requires.count c.requires.narrow (run_pair r) (run_ahead w low high c.args.n r c.requires.count is h)
-    new s.waiting.items waiting (subst (λ (n : ℕ). AddsAll s.found (run_pair r) n new s.waiting.items waiting) is.count a))
+    run_added R W (all_of s.found) s.origin w low high c.args.n wit found m c.requires.count c.requires.narrow (run_pair r) (run_ahead w low high c.args.n r c.requires.count is h)
+    new s.found.waiting waiting (subst (λ (n : ℕ). AddsAll (all_of s.found) (run_pair r) n new s.found.waiting waiting) is.count a))
     c.add_run.ensures
 
 pub add_run-requires-2-clause-first : goal.add_run-requires-2-clause-first
@@ -68,14 +69,14 @@ returns c =
     let r = c.run_of-run.result in
     let is = c.run_of-run.ensures in
     let q = c.mirrored.result in
-    let new = c.add_run-2.new.self in
-    let waiting = c.add_run-2.new.waiting.items in
+    let new = all_of c.add_run-2.new.self in
+    let waiting = c.add_run-2.new.self.waiting in
     let h : w.b <ℤ pos 0 = omega (arith, ints) in
-    on_ok_then c.add_run-2.result (AddsAll s.found (run_pair q) q.count new s.waiting.items waiting)
-    (AddsLinks s.found s.origin w low high c.args.n new s.origin s.waiting.items waiting)
+    on_ok_then c.add_run-2.result (AddsAll (all_of s.found) (run_pair q) q.count new s.found.waiting waiting)
+    (AddsLinks (all_of s.found) s.origin w low high c.args.n new s.origin s.found.waiting waiting)
     (λ a R W wit found m.
-    run_added R W s.found s.origin w low high c.args.n wit found m c.requires.count c.requires.narrow (run_pair (turned r)) (run_behind w low high c.args.n r c.requires.count is h)
-    new s.waiting.items waiting
-    (subst (λ (n : ℕ). AddsAll s.found (run_pair (turned r)) n new s.waiting.items waiting) is.count
-    (subst (λ (x : Run). AddsAll s.found (run_pair x) x.count new s.waiting.items waiting) c.mirrored.ensures a)))
+    run_added R W (all_of s.found) s.origin w low high c.args.n wit found m c.requires.count c.requires.narrow (run_pair (turned r)) (run_behind w low high c.args.n r c.requires.count is h)
+    new s.found.waiting waiting
+    (subst (λ (n : ℕ). AddsAll (all_of s.found) (run_pair (turned r)) n new s.found.waiting waiting) is.count
+    (subst (λ (x : Run). AddsAll (all_of s.found) (run_pair x) x.count new s.found.waiting waiting) c.mirrored.ensures a)))
     c.add_run-2.ensures

@@ -1,13 +1,18 @@
-use Rattle.std.proofs.Common.{arith}
+use Rattle.std.proofs.Common.{◌≡◌, List, [], ◌++◌, ap₂, arith}
+use Rattle.srs_num.specs.declared.pairs.V2.{V2}
 use Rattle.srs_wit.proofs.Adding.{units_2, has_units, few_units, on_ok}
+use Rattle.srs_wit.specs.PairSets.{all_of}
 use Rattle.srs_wit.proofs.closure.Search.add_units.Goals as goal
+
+none : {followed waiting : List V2} → followed ≡ [] → waiting ≡ [] → followed ++ waiting ≡ []
+none e f = ap₂ (λ (x y : List V2). x ++ y) e f
 
 pub within-requires : goal.within-requires
 within-requires c =
     let s = c.args.self.now in
     let t = c.add.new.self in
     let u = c.add-2.new.self in
-    let few = few_units s.found t.found u.found s.origin t.origin u.origin s.waiting.items t.waiting.items u.waiting.items c.requires.found c.requires.origin c.requires.waiting
+    let few = few_units (all_of s.found) (all_of t.found) (all_of u.found) s.origin t.origin u.origin s.found.waiting t.found.waiting u.found.waiting (none c.requires.followed c.requires.waiting) c.requires.origin c.requires.waiting
     c.in-Ok.ensures c.in-Ok-add.ensures in
     omega (arith, few)
 
@@ -16,7 +21,7 @@ returns-clause-found c R =
     let s = c.args.self.now in
     let t = c.add.new.self in
     let u = c.add-2.new.self in
-    on_ok c.within.result _ (units_2 s.found t.found u.found s.origin t.origin u.origin s.waiting.items t.waiting.items u.waiting.items c.requires.found c.requires.origin c.requires.waiting
+    on_ok c.within.result _ (units_2 (all_of s.found) (all_of t.found) (all_of u.found) s.origin t.origin u.origin s.found.waiting t.found.waiting u.found.waiting (none c.requires.followed c.requires.waiting) c.requires.origin c.requires.waiting
     c.in-Ok.ensures c.in-Ok-add.ensures R)
 
 pub returns-clause-units : goal.returns-clause-units
@@ -24,7 +29,7 @@ returns-clause-units c =
     let s = c.args.self.now in
     let t = c.add.new.self in
     let u = c.add-2.new.self in
-    on_ok c.within.result _ (has_units s.found t.found u.found s.origin t.origin u.origin s.waiting.items t.waiting.items u.waiting.items c.requires.found c.requires.origin c.requires.waiting
+    on_ok c.within.result _ (has_units (all_of s.found) (all_of t.found) (all_of u.found) s.origin t.origin u.origin s.found.waiting t.found.waiting u.found.waiting (none c.requires.followed c.requires.waiting) c.requires.origin c.requires.waiting
     c.in-Ok.ensures c.in-Ok-add.ensures)
 
 pub returns-clause-stop : goal.returns-clause-stop
@@ -32,5 +37,5 @@ returns-clause-stop c R =
     let s = c.args.self.now in
     let t = c.add.new.self in
     let u = c.add-2.new.self in
-    c.within.ensures.stop R (units_2 s.found t.found u.found s.origin t.origin u.origin s.waiting.items t.waiting.items u.waiting.items c.requires.found c.requires.origin c.requires.waiting
+    c.within.ensures.stop R (units_2 (all_of s.found) (all_of t.found) (all_of u.found) s.origin t.origin u.origin s.found.waiting t.found.waiting u.found.waiting (none c.requires.followed c.requires.waiting) c.requires.origin c.requires.waiting
     c.in-Ok.ensures c.in-Ok-add.ensures R).half
