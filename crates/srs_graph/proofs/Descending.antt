@@ -18,19 +18,10 @@ use Rattle.srs_graph.proofs.Meaning.{none_some}
 use Rattle.srs_graph.proofs.Reading.{ranked_end, ranked_zero, read_none}
 use Rattle.srs_graph.proofs.Paths.{longer, below, top, by_place, each_more, each_less, top_of, on_more, on_top, waits_more, waits_less, waits_top, apart_more, apart_less, apart_top}
 
-pub fewer_left : (es : List Bool) (k : ℕ) → k < length es → is_entered es k ≡ false → count_by not (set es k true) + 1 ≡ count_by not es
-fewer_left es k h e =
-    let s = sum_by-set (λ (b : Bool). cond {A = ℕ} (not b) 1 0) es k true false h in
-    let t : count_by not (set es k true) + 1 ≡ count_by not es + 0 = subst (λ (b : Bool). count_by not (set es k true) + cond {A = ℕ} (not b) 1 0 ≡ count_by not es + 0) e s in
-    omega arith
-
 pub stay_set : (es : List Bool) (k : ℕ) → k < length es → StayEntered es (set es k true)
 stay_set es k h i e = by_eq i k
     (λ s. ap (is_entered (set es k true)) s ∙ get_or-set_same es k true false h)
     (λ d. get_or-set_other es k i true false d ∙ e)
-
-pub small_marks : (ps : List V2) (rows : List Row) (ms : List (Option ℕ)) → AreMarks ps rows ms → length ps ≤ 16384 → AreSmall ms
-small_marks ps rows ms a h i n e = omega (arith, a.low i n e, a.len)
 
 -- the top of a path that waits
 top_waits : (rows : List Row) (path : List Visit) (v : Visit) (j : ℕ) → WaitsFor rows v j → TopWaitsFor rows (path ++ v ∷ []) j

@@ -134,10 +134,6 @@ all_ranks R ps rows ms es g a d p = (
 pub mark_read : (ms : List (Option ℕ)) (i : ℕ) (o p : Option ℕ) → i < length ms → o ≡ get_or ms i o → o ≡ p → mark_at ms i ≡ p
 mark_read ms i o p h e f = get_or_default ms i None o h ∙ sym e ∙ f
 
--- a pair as the code reads it
-pub pair_read : (ps : List V2) (i : ℕ) (w : V2) → i < length ps → w ≡ get_or ps i w → w ≡ pair_at ps i
-pair_read ps i w h e = e ∙ get_or_default ps i w origin h
-
 pub picked_along : (ps : List V2) (ms : List (Option ℕ)) (k : ℕ) (a b : List V2) → a ≡ b → AreOpenPairs ps ms k b → AreOpenPairs ps ms k a
 picked_along ps ms k a b e p = subst (AreOpenPairs ps ms k) (sym e) p
 

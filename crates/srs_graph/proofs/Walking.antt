@@ -178,10 +178,6 @@ module _ (rows : List Row) (ms : List (Option ℕ)) (path : List ℕ) (at : ℕ)
     short = omega (arith, new_len, w.short, count_less met at (length path) in_met e, length-set met at (Some (length path)));
   }
 
--- something in the row of an open place is open
-pub step_there : (rows : List Row) (ms : List (Option ℕ)) (i : ℕ) → LeadsOn rows ms i → ¬ AreAllMarked ms (row_at rows i).start ((row_at rows i).start + (row_at rows i).len)
-step_there rows ms i o n = n o.next o.in_row.0 o.in_row.1 o.no_mark
-
 -- the first entries of the pairs from `from` up to k
 pub record Entries (ps : List V2) (path : List ℕ) (from k : ℕ) (es : List ℤ) : Type 0 where
   pub above : from ≤ k
@@ -194,9 +190,6 @@ listed_more ps path from (suc n) =
     let t : suc n + 1 ≡ suc (n + 1) = omega arith in
     ap (first_entries ps path from) t ∙
     ap (λ (es : List ℤ). (pair_at ps (get_or path from 0)).a ∷ es) (listed_more ps path (from + 1) n ∙ ap (λ (k : ℕ). first_entries ps path (from + 1) n ++ (pair_at ps (get_or path k 0)).a ∷ []) z)
-
-pub entries_none : (ps : List V2) (path : List ℕ) (from : ℕ) → Entries ps path from from []
-entries_none ps path from = record { above = omega arith; is = let z : 0 ≡ from - from = omega arith in ap (first_entries ps path from) z }
 
 pub entries_more : (ps : List V2) (path : List ℕ) (from k : ℕ) (es : List ℤ) (a : ℤ) → Entries ps path from k es → a ≡ (pair_at ps (get_or path k 0)).a → Entries ps path from (k + 1) (es ++ a ∷ [])
 entries_more ps path from k es a e s = record {
@@ -218,9 +211,6 @@ round_chosen R ps rows ms path from k es g a d r e s =
     is_chosen R ps rows ms g a d path r.at r.met r.walk from r.back es
     (s.is ∙ ap (λ (n : ℕ). first_entries ps path from (n - from)) e ∙ listed_same ps path r.at from (length path - from) (omega (arith, b.0)))
 
-pub round_within : (R : Area) (ps : List V2) (rows : List Row) (ms : List (Option ℕ)) (path : List ℕ) (from : ℕ) → IsRound rows ms path from → from ≤ length path
-round_within R ps rows ms path from r = let b = r.walk.back r.at from r.back in omega (arith, b.0)
-
 -- the places of a round are places of pairs
 pub round_inside : (ps : List V2) (rows : List Row) (ms : List (Option ℕ)) (path : List ℕ) (from : ℕ) → AreRows (length ps) rows → IsPeeled ps rows ms → IsRound rows ms path from → (k : ℕ) → k < length path → get_or path k 0 < length ps
 round_inside ps rows ms path from a d r k h = subst (λ (x : ℕ). x < length ps) (get_or_append_left path (r.at ∷ []) 0 k h) (at_step k h)
@@ -233,9 +223,6 @@ round_inside ps rows ms path from a d r k h = subst (λ (x : ℕ). x < length ps
         let b = a.within (step_at path r.at k) i in
         let n : k + 1 ≡ suc k = omega arith in
         subst (λ (x : ℕ). step_at path r.at x < length ps) n (omega (arith, f.below, b))
-
-pub num_read : (path : List ℕ) (k n : ℕ) → k < length path → n ≡ get_or path k n → n ≡ get_or path k 0
-num_read path k n h e = e ∙ get_or_default path k n 0 h
 
 pub entries_along : (ps : List V2) (path : List ℕ) (from k : ℕ) (a b : List ℤ) → a ≡ b → Entries ps path from k b → Entries ps path from k a
 entries_along ps path from k a b e p = subst (Entries ps path from k) (sym e) p

@@ -20,18 +20,6 @@ use Rattle.srs_wit.specs.Runs.{run_pair, IsRunOf, turned, AddsAll}
 use Rattle.srs_wit.specs.PairSets.{has_pair, with_pair}
 use Rattle.srs_wit.proofs.Adding.{contains_one, absent_pair}
 
--- ---- the pairs of a run are added one after another
-pub adds_none : (old : List V2) (f : ℕ → V2) (waited : List V2) → AddsAll old f 0 old waited waited
-adds_none old f waited = record {
-  more = [];
-  is = sym (append-nil old);
-  waits = sym (append-nil waited);
-  here = λ k h. absurd (omega arith);
-  others = λ v c. inl c;
-  different = λ h. h;
-  few = omega arith;
-}
-
 module _ (old : List V2) (f : ℕ → V2) (k : ℕ) (now waited wait : List V2) (a : AddsAll old f k now waited wait) (v : V2) (is : v ≡ f k) where
   adds_known : Contains now v → AddsAll old f (k + 1) now waited wait
   adds_known c = record {
