@@ -171,14 +171,6 @@ module _ (side : ℕ) (followed waiting : List V2) (words : List ℕ) (far : Lis
     waits_far (Ok added) wait more a f e g h =
         indexed_far side (followed ++ waiting) words far u x away {E = E} (Ok added) (followed ++ wait) more a f (ap (λ (z : List V2). followed ++ z) e ∙ push_over followed waiting u added) g h
 
-  -- what one insertion far away makes of those that wait
-  pub with_far : (away : IsNear side u → ⊥) (added : Bool) (wait : List V2) → added ≡ not (has_pair far u) → wait ≡ (if added then waiting ++ u ∷ [] else waiting) → wait ≡ with_pair followed waiting u
-  with_far away added wait a e = e ∙ ap (λ (z : Bool). if z then waiting ++ u ∷ [] else waiting) (a ∙ ap not (sym (x.apart u away))) ∙ turned (has_pair (followed ++ waiting) u)
-    where
-      turned : (b : Bool) → (if not b then waiting ++ u ∷ [] else waiting) ≡ (if b then waiting else waiting ++ u ∷ [])
-      turned true = refl
-      turned false = refl
-
 -- the marks stay where the pair that waited last is followed
 pub indexed_next : (side : ℕ) (followed waiting new rest : List V2) (words : List ℕ) (far : List V2) (w : V2) → waiting ≡ rest ++ w ∷ [] → new ≡ followed ++ w ∷ []
     → AreIndexed side (followed ++ waiting) words far → AreIndexed side (new ++ rest) words far
