@@ -2,7 +2,8 @@
 use srs_cell::Cell;
 use srs_num::Form;
 use srs_plane::{Half, Kind, Region, Vertex, polygon};
-use std::alloc::{AllocError, Global};
+use srs_shapes::with_kind;
+use std::alloc::Global;
 use std::test::Fail;
 
 // The corners p/d, q/d, the kind of the edges, and the halves a*x + b*y + c of their kinds.
@@ -21,24 +22,6 @@ pub const CORNER: [(i64, i64, i64); 3] = [(0, 0, 1), (1, 0, 8), (0, 1, 8)];
 pub const CLOSED_CORNER: Shape = (&CORNER, Kind::Ge, &[]);
 
 pub const OPEN_CORNER: Shape = (&CORNER, Kind::Gt, &[]);
-
-// The vertices p/d, q/d, with edges of one kind.
-fn with_kind(
-    alloc: Global,
-    corners: &[(i64, i64, i64)],
-    kind: Kind,
-) -> Result<Vec<Vertex>, AllocError> {
-    let mut vertices = Vec::new(alloc);
-    for (p, q, d) in corners {
-        vertices.push(Vertex {
-            p: *p,
-            q: *q,
-            d: *d,
-            kind,
-        })?;
-    }
-    Ok(vertices)
-}
 
 // The polygon's region with these halves appended; none where they aren't a polygon, forms, or few.
 fn region_of(

@@ -1,8 +1,8 @@
 // Findings, limits and paths.
-use crate::parts::{Cut, DOWN, SPLIT, UNDER, part};
-use crate::plain::{Plain, is_plain, path_of};
+use crate::parts::{SPLIT, part};
 use srs_path::{Cause, Finding, Last, Limits};
 use srs_refine::refine;
+use srs_shapes::{Cut, DOWN, Plain, UNDER, is_plain, path_of};
 use std::alloc::Global;
 use std::test::Fail;
 

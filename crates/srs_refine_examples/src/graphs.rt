@@ -1,12 +1,12 @@
 // The graph of a cell's witnesses, and what a cycle does at the points of a cell.
 use crate::parts::{CORNER, CYCLE_ONE, ORIGIN, Polygon, cell_of};
-use crate::plain::is_cycle;
 use crate::witnesses::{MOST, are};
 use srs_cell::Cell;
 use srs_cut::{Judged, cutout, judge};
 use srs_graph::Graph;
 use srs_num::{Forms, Pairs, V2};
 use srs_path::{Cycle, Outcome, Ranks};
+use srs_shapes::is_cycle;
 use srs_text::Nums;
 use srs_wit::witnesses;
 use std::alloc::Global;

@@ -10,8 +10,6 @@ mod graphs;
 #[cfg(test)]
 mod parts;
 #[cfg(test)]
-mod plain;
-#[cfg(test)]
 mod refinement;
 #[cfg(test)]
 mod witnesses;

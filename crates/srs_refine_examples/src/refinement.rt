@@ -1,12 +1,10 @@
 // The outcomes of cells, and the grid lines that cut what isn't small.
-use crate::parts::{
-    CORNER, Cut, DOWN, LEFT, OPEN_CORNER, OVER, Polygon, RIGHT, SPLIT, UNDER, UP, cell_of, part,
-};
-use crate::plain::{Plain, is_plain};
+use crate::parts::{CORNER, OPEN_CORNER, Polygon, SPLIT, cell_of, part};
 use srs_cell::Cell;
 use srs_grid::line;
 use srs_path::{Cause, Last, Side, Why};
 use srs_refine::{Refiner, refine};
+use srs_shapes::{Cut, DOWN, LEFT, OVER, Plain, RIGHT, UNDER, UP, is_plain};
 use std::alloc::Global;
 use std::test::Fail;
 

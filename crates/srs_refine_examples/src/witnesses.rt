@@ -1,11 +1,12 @@
 // Witness sets, and that they may be too many.
 ghost use Rattle.std.specs.Prelude.{◌≤◌};
 
-use crate::parts::{CORNER, Cut, Polygon, cell_of, part};
+use crate::parts::{CORNER, Polygon, cell_of, part};
 use srs_cell::Cell;
 use srs_num::{Pairs, V2};
 use srs_path::Side;
 use srs_plane::Kind;
+use srs_shapes::Cut;
 use srs_wit::{Big, Searcher, WitErr, small_witnesses, witnesses};
 use std::alloc::Global;
 use std::test::Fail;

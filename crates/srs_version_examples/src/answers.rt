@@ -2,10 +2,10 @@
 ghost use Rattle.std.specs.Prelude.{◌≡◌, ◌<◌};
 
 use crate::certificates::{LEFT_SEGMENT, OPEN_EDGE, SPLIT, version_of};
-use crate::plain::{is_cycle, path_of};
 use crate::versions::{entered, start};
 use srs_num::{Pt, Steps};
 use srs_path::{Cause, Last, Path, Why};
+use srs_shapes::{is_cycle, path_of};
 use srs_tree::{Answer, Reply, Version};
 use std::alloc::Global;
 use std::marker::Brand;

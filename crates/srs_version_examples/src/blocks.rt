@@ -1,9 +1,9 @@
 // Versions of more than one block and more than one row, and versions that were taken earlier.
-use crate::parts::{Cut, DOWN, LEFT, OVER, RIGHT, UNDER, UP, cell_of};
-use crate::plain::path_of;
+use crate::parts::cell_of;
 use crate::versions::{entered, start};
 use srs_path::{Limits, Outcome};
 use srs_rounds::rounds;
+use srs_shapes::{Cut, DOWN, LEFT, OVER, RIGHT, UNDER, UP, path_of};
 use srs_tree::{Journal, Version};
 use std::alloc::Global;
 use std::test::Fail;

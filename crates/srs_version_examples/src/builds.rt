@@ -1,11 +1,11 @@
 // What is built from a certificate, and the outcomes of its nodes.
 use crate::certificates::{LEFT_SEGMENT, SPLIT, built, certificate};
-use crate::plain::{Plain, is_outcome, path_of};
 use crate::versions::first_other_outcome;
 use srs_check::{Built, Checked, Counts, Fault, build, check};
 use srs_file::Cert;
 use srs_num::V2;
 use srs_path::{Cause, Why};
+use srs_shapes::{Plain, is_outcome, path_of};
 use std::alloc::Global;
 use std::test::Fail;
 

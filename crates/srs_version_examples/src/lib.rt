@@ -15,6 +15,4 @@ mod meetings;
 #[cfg(test)]
 mod parts;
 #[cfg(test)]
-mod plain;
-#[cfg(test)]
 mod versions;

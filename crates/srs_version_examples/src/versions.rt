@@ -1,9 +1,9 @@
 // Versions of a tree, and why they don't take a finding.
-use crate::parts::{Cut, DOWN, SPLIT, UP, cell_of, part};
-use crate::plain::{Plain, is_outcome, path_of};
+use crate::parts::{SPLIT, cell_of, part};
 use srs_cell::Cell;
 use srs_path::{Finding, Last, Outcome, Path, Side};
 use srs_refine::refine;
+use srs_shapes::{Cut, DOWN, Plain, UP, is_outcome, path_of};
 use srs_tree::{Pending, TreeBuilder, TreeErr, Version};
 use std::alloc::Global;
 use std::test::Fail;

@@ -2,7 +2,7 @@
 use srs_path::{Cause, Cycle, Outcome, Path, Side};
 use std::test::Fail;
 
-// How many witnesses, the entries of the cycle, the numbers of the form, the cause.
+/// How many witnesses, the entries of the cycle, the numbers of the form, the cause.
 #[derive(Clone, Copy, Drop)]
 pub enum Plain {
     Inside(u32),
@@ -11,7 +11,7 @@ pub enum Plain {
     Left(Cause),
 }
 
-// Whether the outcome is the table's; none is none.
+/// Whether the outcome is the table's; none is none.
 pub fn is_outcome(outcome: Option<&Outcome>, wanted: Option<Plain>) -> bool {
     match (outcome, wanted) {
         (None, None) => true,
@@ -20,6 +20,7 @@ pub fn is_outcome(outcome: Option<&Outcome>, wanted: Option<Plain>) -> bool {
     }
 }
 
+/// Whether the outcome is that.
 pub fn is_plain(outcome: &Outcome, wanted: Plain) -> bool {
     match (outcome, wanted) {
         (Outcome::Inside(ranks), Plain::Inside(count)) => ranks.len() == count,
@@ -30,7 +31,7 @@ pub fn is_plain(outcome: &Outcome, wanted: Plain) -> bool {
     }
 }
 
-// Whether these are the entries of the cycle.
+/// Whether these are the entries of the cycle.
 pub fn is_cycle(cycle: &Cycle, entries: &[i64]) -> bool {
     if cycle.len() as usize != entries.len() {
         return false;
@@ -43,7 +44,7 @@ pub fn is_cycle(cycle: &Cycle, entries: &[i64]) -> bool {
     true
 }
 
-// The path of the sides: `g` for Ge, `l` for Lt.
+/// The path of the sides: `g` for Ge, `l` for Lt.
 pub fn path_of(sides: &str) -> Result<Path, Fail> {
     let mut path = Path::root();
     for side in sides.as_bytes() {
