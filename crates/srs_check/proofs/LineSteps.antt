@@ -1,6 +1,6 @@
 -- What one line more makes of a check that takes lines.
 use Rattle.std.proofs.Common.{◌≡◌, inl, inr, ℕ, List, [], ◌∷◌, ◌++◌, length, Ok, Err, Some, None, refl, sym, ap, subst, ◌∙◌, append-nil}
-use Rattle.std.specs.Prelude.{IfOk, IfErr, IfSome, OnOk}
+use Rattle.std.specs.Prelude.{IfOk, IfErr, IfSome, OnOk, is_some, true, false}
 use Rattle.std.proofs.lemmas.Option.{none-some}
 use Rattle.std.specs.declared.option.Option.{Option}
 use Rattle.std.specs.declared.result.Result.{Result}
@@ -13,6 +13,7 @@ use Rattle.srs_file.specs.declared.cert_feed.NodeAt.{NodeAt}
 use Rattle.srs_file.specs.declared.cert_reader.CertPhase.{CertPhase}
 use Rattle.srs_file.specs.declared.cert_reader.CertPhase.TheVariants.{First, Polygon, Nodes, Done}
 use Rattle.srs_file.specs.declared.cert_reader.CertReader.{CertReader}
+use Rattle.srs_cert.specs.Certificates.{CertView}
 use Rattle.srs_file.specs.Grammar.{SpellsCertificate}
 use Rattle.srs_file.specs.CertReading.{CertSteps, cert_start, limits_in, read_view, FirstCertSlip, IsCertRefusal}
 use Rattle.srs_file.specs.Feeding.{CertFeedView, IsFed, FeedsLine, IsLineRefusal, fed_limits}
@@ -20,7 +21,7 @@ use Rattle.srs_file.proofs.Spelled.{joined_append}
 use Rattle.srs_check.specs.declared.walk.Walk.{Walk}
 use Rattle.srs_check.specs.declared.line_check.LineCheck.{LineCheck}
 use Rattle.srs_check.specs.Walks.{HasCome}
-use Rattle.srs_check.specs.LineChecks.{GoesOn, IsPlanted, WalksWith, GoodSoFar, HasSlipped, HasTaken, TakesNode}
+use Rattle.srs_check.specs.LineChecks.{GoesOn, IsPlanted, WalksWith, HasBegun, GoodSoFar, HasSlipped, HasTaken, TakesNode}
 use Rattle.srs_check.proofs.Reading.{slip_stays, SameHead, same_head, goes_back}
 
 -- the text with one line more
@@ -96,6 +97,28 @@ limits_of Done b planted = refl
 
 pub limits_fed : (feed : CertFeedView) (lines : List (List ℕ)) (s : CertReader) → IsFed feed lines s → IsPlanted s.phase → fed_limits feed ≡ Some s.tree.limits
 limits_fed feed lines s fed planted = ap (λ (r : CertReader). limits_in r.phase r.tree.limits) fed.reader_is ∙ limits_of s.phase s.tree.limits planted
+
+-- a walk that is there has begun
+pub has_begun : (s : CertReader) (c : CertView) (w : Option Walk) → true ≡ is_some w → WalksWith s w → GoesOn s c → HasBegun c (length s.tree.events) w
+has_begun s c None e walks g = absurd (let q : true ≡ false = e in cc)
+has_begun s c (Some w) e walks g = walks.1 c g
+
+pub no_walk : (w : Option Walk) → false ≡ is_some w → w ≡ None
+no_walk None e = refl
+no_walk (Some w) e = cc
+
+-- and where there is none, no node was read
+pub begins_now : (s : CertReader) (c : CertView) (w : Option Walk) → w ≡ None → (new : Option Walk) → WalksWith s w → HasBegun c 0 new → HasBegun c (length s.tree.events) new
+begins_now s c w none new walks begun =
+    let empty : s.tree.events ≡ [] = subst (WalksWith s) none walks in
+    subst (λ (n : ℕ). HasBegun c n new) (sym (ap length empty)) begun
+
+-- a walk that was begun and is there has come
+pub come_on : (c : CertView) (i : ℕ) (o : Option Walk) (w : Walk) → HasBegun c i o → o ≡ Some w → HasCome c i w
+come_on c i o w begun e = subst (HasBegun c i) e begun
+
+pub no_begun : (c : CertView) (i : ℕ) (o : Option Walk) → HasBegun c i o → o ≡ None → ⊥
+no_begun c i o begun e = subst (HasBegun c i) e begun
 
 -- a whole certificate goes on from itself
 pub whole_goes_on : (text : List ℕ) (s : CertReader) → SpellsCertificate text (read_view s) → GoesOn s (read_view s)

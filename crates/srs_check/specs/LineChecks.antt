@@ -41,6 +41,11 @@ abbrev pub WalksWith : CertReader → Option Walk → Type 0
 WalksWith s None = s.tree.events ≡ []
 WalksWith s (Some w) = IsPlanted s.phase × ((c : CertView) → GoesOn s c → HasCome c (length s.tree.events) w)
 
+-- there is a walk, which has come to node i
+abbrev pub HasBegun : CertView → ℕ → Option Walk → Type 0
+HasBegun c i None = ⊥
+HasBegun c i (Some w) = HasCome c i w
+
 -- the lines are good, and the walk has met their nodes
 pub record GoodSoFar (check : LineCheck) (lines : List (List ℕ)) : Type 0 where
   pub state : CertReader

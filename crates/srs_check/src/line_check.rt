@@ -2,13 +2,14 @@
 ghost use Rattle.std.specs.Prelude.{◌≡◌, ◌++◌, [], ◌∷◌, List, ℕ, IfOk, IfErr, OnOk, length};
 ghost use Rattle.srs_text.specs.Line.{HasNoLf};
 ghost use Rattle.srs_plane.specs.Polygons.{IsPolygon};
-ghost use Rattle.srs_cert.specs.Certificates.{CertView};
+ghost use Rattle.srs_cert.specs.Certificates.{CertView, IsCertificate};
 ghost use Rattle.srs_file.specs.declared.cert_reader.CertReader.{CertReader};
 ghost use Rattle.srs_check.specs.Walks.{HasCome};
 ghost use Rattle.srs_line.specs.Machine.{lines_text};
 ghost use Rattle.srs_file.specs.declared.cert_feed.NodeAt.{NodeAt};
 ghost use Rattle.srs_file.specs.CertReading.{IsCertRefusal};
-ghost use Rattle.srs_check.specs.LineChecks.{GoesOn, WalksWith, HasTaken, TakesNode, GoodSoFar, ChecksText};
+ghost use Rattle.srs_check.specs.LineChecks.{GoesOn, WalksWith, HasBegun, HasTaken, TakesNode};
+ghost use Rattle.srs_check.specs.LineChecks.{GoodSoFar, ChecksText};
 
 use crate::Checked;
 use crate::checks::polygon_cell;
@@ -82,21 +83,36 @@ impl LineCheck {
         let Some(limits) = self.feed.limits() else {
             unreachable!()
         };
-        let mut walk = begun(alloc, self.walk.take(), self.feed.vertices())?;
-        walk.node(alloc, &limits, node.line, node.depth, &node.outcome)?;
-        self.walk = Some(walk);
-        Ok(())
+        begin(&mut self.walk, alloc, self.feed.vertices())?;
+        // The walk is large, and stays where it is.
+        let Some(walk) = &mut self.walk else {
+            unreachable!()
+        };
+        walk.node(alloc, &limits, node.line, node.depth, &node.outcome)
     }
 }
 
-// The walk so far, or one that begins with the cell of the polygon.
-fn begun(alloc: Global, walk: Option<Walk>, vertices: &[Vertex]) -> Result<Walk, NoMemory>
+// There is a walk then: that so far, or one that begins with the cell of the polygon.
+fn begin(walk: &mut Option<Walk>, alloc: Global, vertices: &[Vertex]) -> Result<(), NoMemory>
     requires { IsPolygon vertices.now }
-    ensures { IfOk result (λ w. (s : CertReader) (c : CertView) → WalksWith s walk → GoesOn s c →
-        c.vertices ≡ vertices.now → HasCome c (length s.tree.events) w) }
+    ensures { OnOk result ((s : CertReader) (c : CertView) → WalksWith s walk.old → GoesOn s c →
+        c.vertices ≡ vertices.now → HasBegun c (length s.tree.events) walk.new) }
 {
-    match walk {
-        Some(walk) => Ok(walk),
-        None => Ok(Walk::of(alloc, polygon_cell(alloc, vertices)?)),
+    if walk.is_some() {
+        return Ok(());
     }
+    start(walk, alloc, vertices)
+}
+
+// A walk begins with the cell of the polygon. It comes once, and its locals are large: inlined, each
+// node would pay for them.
+#[cold]
+#[inline(never)]
+fn start(walk: &mut Option<Walk>, alloc: Global, vertices: &[Vertex]) -> Result<(), NoMemory>
+    requires { IsPolygon vertices.now }
+    ensures { OnOk result ((c : CertView) → IsCertificate c → c.vertices ≡ vertices.now →
+        HasBegun c 0 walk.new) }
+{
+    *walk = Some(Walk::of(alloc, polygon_cell(alloc, vertices)?));
+    Ok(())
 }

@@ -1,6 +1,4 @@
-use Rattle.std.proofs.Common.{rules, FitsSigned, w64, to_z-of_z, ◌≡◌, ◌<◌, true, false, true≢false, refl, sym, ap, subst, ◌∙◌, arith}
-use Rattle.std.proofs.lemmas.Int.{ints}
-use Rattle.srs_num.specs.declared.pairs.V2.{V2}
+use Rattle.std.proofs.Common.{rules, FitsSigned, w64, to_z-of_z, ◌≡◌, false, true≢false, refl, sym, subst, ◌∙◌, arith}
 use Rattle.srs_check.specs.Listed.{IsBelow}
 use Rattle.srs_check.proofs.BothLinks.{sees_one, goes_down, closed, least_above}
 use Rattle.srs_check.proofs.listed.is_closed.Goals as goal
