@@ -8,7 +8,8 @@ use Rattle.std.proofs.Math.Seq.{get_or-append_right}
 use Rattle.std.proofs.lemmas.List.Sums.{count_by-le-length, sum_by-set, sum_by-cons}
 use Rattle.srs_num.specs.declared.pairs.V2.{V2}
 use Rattle.srs_map.specs.Step.{origin}
-use Rattle.srs_path.proofs.WitnessLemmas.{pair_eq, pair-decides}
+use Rattle.srs_path.specs.Core.{pair_eq}
+use Rattle.srs_path.proofs.WitnessLemmas.{pair-decides}
 use Rattle.srs_graph.specs.declared.rows.Row.{Row}
 use Rattle.srs_graph.specs.Networks.{pair_at}
 use Rattle.srs_graph.specs.Marks.{mark_at, Ranked, unmarked, AreMarks, HasNoMarks}

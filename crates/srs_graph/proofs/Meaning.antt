@@ -5,8 +5,8 @@ use Rattle.std.proofs.lemmas.List.{get_or_past, get_or_default}
 use Rattle.srs_num.specs.declared.pairs.V2.{V2}
 use Rattle.srs_map.specs.Step.{origin}
 use Rattle.srs_plane.specs.Regions.{Area}
-use Rattle.srs_path.specs.Core.{Wanders, IsInCore, HasNoCore, Settles, IsRank}
-use Rattle.srs_path.proofs.WitnessLemmas.{pair_eq, pair-decides}
+use Rattle.srs_path.specs.Core.{Wanders, IsInCore, HasNoCore, Settles, IsRank, pair_eq}
+use Rattle.srs_path.proofs.WitnessLemmas.{pair-decides}
 use Rattle.srs_graph.specs.declared.rows.Row.{Row}
 use Rattle.srs_graph.specs.Networks.{pair_at, AreRows, network, IsGraph}
 use Rattle.srs_graph.specs.Marks.{mark_at, IsPeeled}

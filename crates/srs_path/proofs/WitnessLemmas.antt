@@ -11,7 +11,7 @@ use Rattle.srs_map.specs.Step.{pair, origin, IsNarrow}
 use Rattle.srs_map.specs.Links.{IsUnit, IsLink}
 use Rattle.srs_plane.specs.Regions.{Area, IsIn}
 use Rattle.srs_path.specs.Witnesses.{IsWitness, unit, link, HasEdge, IsSmall, AreWitnesses}
-use Rattle.srs_path.specs.Core.{Wanders, HasNoCore}
+use Rattle.srs_path.specs.Core.{Wanders, HasNoCore, pair_eq}
 
 -- a property of the units that each link keeps is one of each witness
 pub witness_induction : (R : Area) (P : V2 → Type 0) → ((w : V2) → IsUnit w → P w) → ((w v : V2) (r : Point) → IsIn R r → IsLink r w v → P w → P v) → {w : V2} → IsWitness R w → P w
@@ -23,9 +23,6 @@ pub no_wander : (R : Area) (P : V2 → Type 0) (rank : V2 → ℕ) → ((w v : V
 no_wander R P rank falls zero w p h k = let f = falls w k.1.0 p k.0 k.1.1 in absurd (omega (arith, f.1))
 no_wander R P rank falls (suc n) w p h k =
     let f = falls w k.1.0 p k.0 k.1.1 in no_wander R P rank falls n k.1.0 f.0 (omega (arith, f.1)) k.1.2
-
-abbrev pub pair_eq : V2 → V2 → Bool
-pair_eq v w = int_eq v.a w.a && int_eq v.b w.b
 
 both : (s t : Bool) → (s && t) ≡ true → (s ≡ true) × (t ≡ true)
 both true true e = (refl, refl)

@@ -1,5 +1,6 @@
 -- The core of a region, and ranks.
-use Rattle.std.specs.Prelude.{◌≡◌, ◌≢◌, ℕ, zero, suc, ◌≤◌, ◌≤ℤ◌, ◌<ℤ◌, List, Contains, AllPairs}
+use Rattle.std.specs.Prelude.{◌≡◌, ◌≢◌, ℕ, zero, suc, ◌≤◌, ◌≤ℤ◌, ◌<ℤ◌, Bool, ◌&&◌, List, Contains, AllPairs}
+use Rattle.std.specs.Ordering.{int_eq}
 use Rattle.srs_num.specs.declared.pairs.V2.{V2}
 use Rattle.srs_map.specs.Step.{origin}
 use Rattle.srs_plane.specs.Regions.{Area}
@@ -30,6 +31,10 @@ Settles R (suc n) w = (w ≢ origin) × ((v : V2) × HasEdge R w v × Settles R 
 pub record IsRank (R : Area) (w : V2) (n : ℕ) : Type 0 where
   pub walk : Settles R n w
   pub longest : (m : ℕ) → Settles R m w → m ≤ n
+
+-- whether both are the same pair
+abbrev pub pair_eq : V2 → V2 → Bool
+pair_eq v w = int_eq v.a w.a && int_eq v.b w.b
 
 -- v stands before w in the order by a and then by b
 abbrev pub Precedes : V2 → V2 → Type 0

@@ -15,7 +15,8 @@ use Rattle.srs_map.specs.Step.{pair, minus, IsNarrow}
 use Rattle.srs_map.specs.Links.{right, left, up, down}
 use Rattle.srs_plane.specs.Regions.{Area}
 use Rattle.srs_path.specs.Witnesses.{IsWitness, unit}
-use Rattle.srs_path.proofs.WitnessLemmas.{pair_eq, pair-decides}
+use Rattle.srs_path.specs.Core.{pair_eq}
+use Rattle.srs_path.proofs.WitnessLemmas.{pair-decides}
 use Rattle.srs_wit.specs.Halves.{IsUpperOf, IsHeld, count_both}
 use Rattle.srs_wit.specs.PairSets.{Lists, all_of, has_pair, with_pair, HasOneMore}
 use Rattle.srs_wit.specs.Search.{AreHalf, Adds, Extends, HasUnits}

@@ -1,6 +1,6 @@
 -- How a set of pairs stays indexed.
 use Rattle.std.proofs.Common.{◌≡◌, ◌⊎◌, ◌^◌, negsuc, to_z, of_z, w64, inl, inr, ℕ, ◌*◌, ◌/◌, ◌%◌, ◌<◌, ◌≤◌, ◌+◌, List, [], ◌∷◌, ◌++◌, Bool, true, false, ◌||◌, true≢false, ℤ, pos, neg_ℤ, unsigned_abs, ◌+ℤ◌, ◌≤ℤ◌, ◌<ℤ◌, arith, ap, ap₂, subst, sym, ◌∙◌, refl, append_assoc}
-use Rattle.std.specs.Prelude.{not, if◌then◌else◌, Result, Ok, Err, IfOk, OnErr}
+use Rattle.std.specs.Prelude.{if◌then◌else◌, Result, Ok, Err, OnOk, OnErr}
 use Rattle.std.proofs.lemmas.Int.{ints}
 use Rattle.std.specs.List.Sorted.{IsPermutation}
 use Rattle.std.proofs.lemmas.List.Sorted.{list_any-IsPermutation}
@@ -9,7 +9,8 @@ use Rattle.std.proofs.lemmas.Nat.{div-mul-add, mod-mul-add, mul-add-lt}
 use Rattle.indexmap.specs.IndexSet.{insert_key}
 use Rattle.srs_num.specs.declared.pairs.V2.{V2}
 use Rattle.srs_map.specs.Step.{pair, IsNarrow}
-use Rattle.srs_path.proofs.WitnessLemmas.{pair_eq, pair-decides}
+use Rattle.srs_path.specs.Core.{pair_eq}
+use Rattle.srs_path.proofs.WitnessLemmas.{pair-decides}
 use Rattle.srs_wit.specs.Marks.{is_marked, Marks}
 use Rattle.srs_wit.proofs.Permuting.{moved_last}
 use Rattle.srs_wit.specs.PairSets.{has_pair, with_pair, IsNear, IsNumber, AreIndexed, number_of}
@@ -138,24 +139,24 @@ module _ (side : ℕ) (vs : List V2) (words : List ℕ) (far : List V2) (u : V2)
     both : (ws more : List V2) → ws ≡ vs → more ≡ far → AreIndexed side ws words more
     both ws more e f = subst (λ (y : List V2). AreIndexed side y words more) (sym e) (subst (λ (y : List V2). AreIndexed side vs words y) (sym f) x)
 
-    pub indexed_far : {E : Type 0} (r : Result Bool E) (ws more : List V2)
-        → IfOk r (λ added. added ≡ not (has_pair far u)) → IfOk r (λ added. more ≡ insert_key pair_eq far u) → IfOk r (λ added. ws ≡ (if added then vs ++ u ∷ [] else vs))
+    pub indexed_far : {O E : Type 0} (r : Result O E) (ws more : List V2)
+        → OnOk r (more ≡ insert_key pair_eq far u) → OnOk r (ws ≡ (if has_pair far u then vs else vs ++ u ∷ []))
         → OnErr r (more ≡ far) → OnErr r (ws ≡ vs) → AreIndexed side ws words more
-    indexed_far (Err y) ws more a f e g h = both ws more h g
-    indexed_far (Ok added) ws more a f e g h = by_test (has_pair far u) refl
+    indexed_far (Err y) ws more f e g h = both ws more h g
+    indexed_far (Ok x) ws more f e g h = by_test (has_pair far u) refl
       where
         by_test : (b : Bool) → has_pair far u ≡ b → AreIndexed side ws words more
         by_test true t =
-            both ws more (e ∙ ap (λ (z : Bool). if z then vs ++ u ∷ [] else vs) (a ∙ ap not t)) (f ∙ ap (λ (z : Bool). if z then far else far ++ u ∷ []) t)
+            both ws more (e ∙ ap (λ (z : Bool). if z then vs else vs ++ u ∷ []) t) (f ∙ ap (λ (z : Bool). if z then far else far ++ u ∷ []) t)
         by_test false t =
-            let p : ws ≡ vs ++ u ∷ [] = e ∙ ap (λ (z : Bool). if z then vs ++ u ∷ [] else vs) (a ∙ ap not t) in
+            let p : ws ≡ vs ++ u ∷ [] = e ∙ ap (λ (z : Bool). if z then vs else vs ++ u ∷ []) t in
             let q : more ≡ far ++ u ∷ [] = f ∙ ap (λ (z : Bool). if z then far else far ++ u ∷ []) t in
             subst (λ (y : List V2). AreIndexed side y words more) (sym p) (subst (λ (y : List V2). AreIndexed side (vs ++ u ∷ []) words y) (sym q) indexed_more)
 
 -- ---- the pairs are those that were followed and those that wait
-push_over : (followed waiting : List V2) (u : V2) (b : Bool) → followed ++ (if b then waiting ++ u ∷ [] else waiting) ≡ (if b then (followed ++ waiting) ++ u ∷ [] else followed ++ waiting)
-push_over followed waiting u true = sym (append_assoc followed waiting (u ∷ []))
-push_over followed waiting u false = refl
+push_over : (followed waiting : List V2) (u : V2) (b : Bool) → followed ++ (if b then waiting else waiting ++ u ∷ []) ≡ (if b then followed ++ waiting else (followed ++ waiting) ++ u ∷ [])
+push_over followed waiting u true = refl
+push_over followed waiting u false = sym (append_assoc followed waiting (u ∷ []))
 
 module _ (side : ℕ) (followed waiting : List V2) (words : List ℕ) (far : List V2) (u : V2) (x : AreIndexed side (followed ++ waiting) words far) where
   pub waits_near : (n : ℕ) (new : List ℕ) → IsNumber side u n → Marks words n new → AreIndexed side (followed ++ (waiting ++ u ∷ [])) new far
@@ -163,13 +164,14 @@ module _ (side : ℕ) (followed waiting : List V2) (words : List ℕ) (far : Lis
       subst (λ (y : List V2). AreIndexed side y new far) (append_assoc followed waiting (u ∷ []))
       (indexed_near side (followed ++ waiting) words far u x n new num m)
 
-  module _ (away : IsNear side u → ⊥) {E : Type 0} where
-    pub waits_far : (r : Result Bool E) (wait more : List V2)
-        → IfOk r (λ added. added ≡ not (has_pair far u)) → IfOk r (λ added. more ≡ insert_key pair_eq far u) → IfOk r (λ added. wait ≡ (if added then waiting ++ u ∷ [] else waiting))
+  module _ (away : IsNear side u → ⊥) {O E : Type 0} where
+    pub waits_far : (r : Result O E) (wait more : List V2)
+        → OnOk r (more ≡ insert_key pair_eq far u) → OnOk r (wait ≡ (if has_pair far u then waiting else waiting ++ u ∷ []))
         → OnErr r (more ≡ far) → OnErr r (wait ≡ waiting) → AreIndexed side (followed ++ wait) words more
-    waits_far (Err y) wait more a f e g h = indexed_far side (followed ++ waiting) words far u x away {E = E} (Err y) (followed ++ wait) more a f e g (ap (λ (z : List V2). followed ++ z) h)
-    waits_far (Ok added) wait more a f e g h =
-        indexed_far side (followed ++ waiting) words far u x away {E = E} (Ok added) (followed ++ wait) more a f (ap (λ (z : List V2). followed ++ z) e ∙ push_over followed waiting u added) g h
+    waits_far (Err y) wait more f e g h = indexed_far side (followed ++ waiting) words far u x away {O = O} {E = E} (Err y) (followed ++ wait) more f e g (ap (λ (z : List V2). followed ++ z) h)
+    waits_far (Ok y) wait more f e g h =
+        indexed_far side (followed ++ waiting) words far u x away {O = O} {E = E} (Ok y) (followed ++ wait) more f
+        (ap (λ (z : List V2). followed ++ z) e ∙ push_over followed waiting u (has_pair far u)) g h
 
 -- the marks stay where the pair that waited last is followed
 pub indexed_next : (side : ℕ) (followed waiting new rest : List V2) (words : List ℕ) (far : List V2) (w : V2) → waiting ≡ rest ++ w ∷ [] → new ≡ followed ++ w ∷ []

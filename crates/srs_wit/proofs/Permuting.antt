@@ -8,7 +8,8 @@ use Rattle.std.proofs.lemmas.Map.Keys.{IsDistinct-IsPermutation}
 use Rattle.srs_num.specs.declared.pairs.V2.{V2}
 use Rattle.srs_map.specs.Step.{minus}
 use Rattle.srs_plane.specs.Regions.{Area}
-use Rattle.srs_path.proofs.WitnessLemmas.{pair_eq, pair-decides}
+use Rattle.srs_path.specs.Core.{pair_eq}
+use Rattle.srs_path.proofs.WitnessLemmas.{pair-decides}
 use Rattle.srs_wit.specs.Halves.{AreNarrow, IsHeld}
 use Rattle.srs_wit.specs.Search.{AreHalf, AreFound}
 

@@ -14,7 +14,8 @@ use Rattle.srs_num.specs.Points.{IsWithin}
 use Rattle.srs_num.proofs.Linear.{linear}
 use Rattle.srs_map.specs.Step.{pair, minus}
 use Rattle.srs_cell.specs.Spans.{IsCount, pair_from}
-use Rattle.srs_path.proofs.WitnessLemmas.{pair_eq, pair-decides}
+use Rattle.srs_path.specs.Core.{pair_eq}
+use Rattle.srs_path.proofs.WitnessLemmas.{pair-decides}
 use Rattle.srs_wit.specs.declared.runs.Run.{Run}
 use Rattle.srs_wit.specs.Runs.{run_pair, IsRunOf, turned, AddsAll}
 use Rattle.srs_wit.specs.PairSets.{has_pair, with_pair}

@@ -2,7 +2,7 @@
 use Rattle.std.specs.Prelude.{◌≡◌, ℕ, ◌+◌, ◌*◌, ◌<◌, ◌≤◌, ◌^◌, pos, neg_ℤ, ◌+ℤ◌, ◌≤ℤ◌, ◌<ℤ◌, unsigned_abs, Bool, List, [], ◌∷◌, ◌++◌, if◌then◌else◌, length}
 use Rattle.std.specs.List.{list_any}
 use Rattle.srs_num.specs.declared.pairs.V2.{V2}
-use Rattle.srs_path.proofs.WitnessLemmas.{pair_eq}
+use Rattle.srs_path.specs.Core.{pair_eq}
 use Rattle.srs_wit.specs.Marks.{is_marked}
 
 -- whether v is one of the pairs

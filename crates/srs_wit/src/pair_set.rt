@@ -1,9 +1,9 @@
 // A set of pairs that is looked up fast where their entries are small.
-ghost use Rattle.std.specs.Prelude.{◌≡◌, ◌≤◌, ◌<◌, ◌*◌, ◌^◌, ◌++◌, [], ◌∷◌, not, length};
+ghost use Rattle.std.specs.Prelude.{◌≡◌, ◌≤◌, ◌<◌, ◌*◌, ◌^◌, ◌++◌, [], ◌∷◌, length};
 ghost use Rattle.std.specs.Prelude.{if◌then◌else◌, ℕ, MatchOption, IfOk, OnOk, OnErr};
 ghost use Rattle.indexmap.specs.IndexSet.{insert_key};
 ghost use Rattle.srs_map.specs.Step.{IsNarrow};
-ghost use Rattle.srs_path.proofs.WitnessLemmas.{pair_eq};
+ghost use Rattle.srs_path.specs.Core.{pair_eq};
 ghost use Rattle.srs_num.specs.Points.{IsWithin};
 ghost use Rattle.srs_wit.specs.PairSets.{has_pair, with_pair, IsNear, IsNumber, AreIndexed};
 ghost use Rattle.srs_wit.specs.PairSets.{all_of, IsNext, HasOneMore};
@@ -60,21 +60,20 @@ fn number(side: usize, v: V2) -> Option<usize>
 
 // Adds the pair to those far away and to those that wait, unless it is among those far away.
 #[inline(never)]
-fn insert_far(waiting: &mut Vec<V2>, far: &mut IndexSet<V2>, v: V2) -> Result<bool, NoMemory>
-    ensures added { IfOk result (λ added. added ≡ not (has_pair far.old.keys v)) }
-    ensures far { IfOk result (λ added. far.new.keys ≡ insert_key pair_eq far.old.keys v) }
-    ensures waiting { IfOk result (λ added. waiting.new.items ≡
-        (if added then waiting.old.items ++ v ∷ [] else waiting.old.items)) }
+fn insert_far(waiting: &mut Vec<V2>, far: &mut IndexSet<V2>, v: V2) -> Result<(), NoMemory>
+    ensures far { OnOk result (far.new.keys ≡ insert_key pair_eq far.old.keys v) }
+    ensures waiting { OnOk result (waiting.new.items ≡ (if has_pair far.old.keys v
+        then waiting.old.items else waiting.old.items ++ v ∷ [])) }
     ensures err_far { OnErr result (far.new.keys ≡ far.old.keys) }
     ensures err_waiting { OnErr result (waiting.new.items ≡ waiting.old.items) }
 {
     match far.insert(v) {
         Ok(true) => {}
-        Ok(false) => return Ok(false),
+        Ok(false) => return Ok(()),
         Err(_) => return Err(NoMemory),
     }
     match waiting.push(v) {
-        Ok(()) => Ok(true),
+        Ok(()) => Ok(()),
         Err(_) => {
             let _ = far.pop();
             Err(NoMemory)
@@ -82,7 +81,7 @@ fn insert_far(waiting: &mut Vec<V2>, far: &mut IndexSet<V2>, v: V2) -> Result<bo
     }
 }
 
-// Adds the pair to those that wait, and says whether it is new.
+// Adds the pair to those that wait, unless it is there.
 #[inline(always)]
 fn insert(
     followed: &Vec<V2>,
@@ -91,24 +90,24 @@ fn insert(
     far: &mut IndexSet<V2>,
     side: usize,
     v: V2,
-) -> Result<bool, NoMemory>
+) -> Result<(), NoMemory>
     requires indexed { AreIndexed side (followed.now.items ++ waiting.old.items)
         near.old.words.items far.old.keys }
     requires narrow { IsNarrow v }
     ensures indexed { AreIndexed side (followed.now.items ++ waiting.new.items)
         near.new.words.items far.new.keys }
-    ensures waiting { IfOk result (λ added. waiting.new.items ≡
+    ensures waiting { OnOk result (waiting.new.items ≡
         with_pair followed.now.items waiting.old.items v) }
 {
     let Some(k) = number(side, v) else {
         return insert_far(waiting, far, v);
     };
     if near.has(k) {
-        return Ok(false);
+        return Ok(());
     }
     waiting.push(v)?;
     near.mark(k);
-    Ok(true)
+    Ok(())
 }
 
 // Adds the pairs of the run to those that wait, unless they are there.
@@ -258,7 +257,6 @@ impl PairSet {
             &mut self.far,
             side,
             v,
-        )?;
-        Ok(())
+        )
     }
 }

@@ -5,7 +5,7 @@ pub returns-in_default-clause-indexed : goal.returns-in_default-clause-indexed
 returns-in_default-clause-indexed c =
     let e = c.insert_far.ensures in
     waits_far c.args.side c.args.followed.now.items c.args.waiting.now.items c.args.near.now.words.items c.args.far.now.keys c.args.v c.requires.indexed c.in_default.ensures c.insert_far.result
-    c.insert_far.new.waiting.items c.insert_far.new.far.keys e.added e.far e.waiting e.err_far e.err_waiting
+    c.insert_far.new.waiting.items c.insert_far.new.far.keys e.far e.waiting e.err_far e.err_waiting
 
 pub returns-clause-indexed : goal.returns-clause-indexed
 returns-clause-indexed c =
