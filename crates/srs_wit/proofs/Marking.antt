@@ -6,7 +6,6 @@ use Rattle.std.specs.Int.RustNames.{bit_or}
 use Rattle.std.proofs.Math.ListN.{set}
 use Rattle.std.proofs.Math.Decide.{dec_lt}
 use Rattle.std.proofs.lemmas.List.{length-set, get_or-set_same, get_or-set_other}
-use Rattle.std.proofs.lemmas.Grind.{get_or_default_zero}
 use Rattle.std.proofs.lemmas.Nat.Bits.{bit_at_set_same, bit_at_set_other}
 use Rattle.srs_wit.specs.Marks.{is_marked, Marks}
 
@@ -14,15 +13,12 @@ use Rattle.srs_wit.specs.Marks.{is_marked, Marks}
 abbrev pub with_bit : ℕ → ℕ → ℕ
 with_bit word i = bit_or word (1 * 2 ^ i % 2 ^ 64)
 
-module _ (words : List ℕ) (k word : ℕ) (within : k < 64 * length words) (e : word ≡ get_or words (k / 64) word) where
+module _ (words : List ℕ) (k word : ℕ) (within : k < 64 * length words) (was : word ≡ get_or words (k / 64) 0) where
   place : k / 64 < length words
   place = omega arith
 
   there : get_or (set words (k / 64) (with_bit word (k % 64))) (k / 64) 0 ≡ with_bit word (k % 64)
   there = get_or-set_same words (k / 64) (with_bit word (k % 64)) 0 place
-
-  was : word ≡ get_or words (k / 64) 0
-  was = e ∙ get_or_default_zero words (k / 64) word place
 
   same_word : (j : ℕ) → j ≢ k → j / 64 ≡ k / 64 → is_marked (set words (k / 64) (with_bit word (k % 64))) j ≡ is_marked words j
   same_word j ne q =

@@ -1,5 +1,5 @@
 // Marks for numbers, one bit each.
-ghost use Rattle.std.specs.Prelude.{◌≡◌, ℕ, ◌≤◌, ◌<◌, ◌*◌, ◌^◌, false, vec_len, IfOk};
+ghost use Rattle.std.specs.Prelude.{◌≡◌, ℕ, ◌≤◌, ◌<◌, ◌*◌, ◌^◌, false, length, vec_len, IfOk};
 ghost use Rattle.srs_wit.specs.Marks.{is_marked, Marks};
 
 use srs_num::NoMemory;
@@ -39,23 +39,23 @@ impl MarkTable {
     {
         unmark(&mut self.words);
     }
+}
 
-    // Whether the number is marked.
-    #[inline(always)]
-    pub(crate) fn has(&self, k: usize) -> bool
-        requires { k < 64 * vec_len self.now.words }
-        ensures { result ≡ is_marked self.now.words.items k }
-    {
-        (self.words[k / 64] >> (k % 64)) & 1 == 1
-    }
+// Whether the number is marked.
+#[inline(always)]
+pub(crate) fn is_marked(words: &[u64], k: usize) -> bool
+    requires { k < 64 * length words.now }
+    ensures { result ≡ is_marked words.now k }
+{
+    (words[k / 64] >> (k % 64)) & 1 == 1
+}
 
-    // Marks the number.
-    #[inline(always)]
-    pub(crate) fn mark(&mut self, k: usize)
-        requires { k < 64 * vec_len self.old.words }
-        ensures { Marks self.old.words.items k self.new.words.items }
-    {
-        let place = k / 64;
-        self.words[place] = self.words[place] | (1 << (k % 64));
-    }
+// Marks the number.
+#[inline(always)]
+pub(crate) fn mark(words: &mut [u64], k: usize)
+    requires { k < 64 * length words.old }
+    ensures { Marks words.old k words.new }
+{
+    let place = k / 64;
+    words[place] = words[place] | (1 << (k % 64));
 }

@@ -9,7 +9,7 @@ ghost use Rattle.srs_wit.specs.PairSets.{has_pair, with_pair, IsNear, IsNumber, 
 ghost use Rattle.srs_wit.specs.PairSets.{all_of, IsNext, HasOneMore};
 ghost use Rattle.srs_wit.specs.Runs.{run_pair, AddsAll};
 
-use crate::marks::MarkTable;
+use crate::marks::{MarkTable, is_marked, mark};
 use crate::runs::Run;
 use indexmap::IndexSet;
 use srs_num::{NoMemory, V2};
@@ -86,27 +86,27 @@ fn insert_far(waiting: &mut Vec<V2>, far: &mut IndexSet<V2>, v: V2) -> Result<()
 fn insert(
     followed: &Vec<V2>,
     waiting: &mut Vec<V2>,
-    near: &mut MarkTable,
+    marks: &mut [u64],
     far: &mut IndexSet<V2>,
     side: usize,
     v: V2,
 ) -> Result<(), NoMemory>
     requires indexed { AreIndexed side (followed.now.items ++ waiting.old.items)
-        near.old.words.items far.old.keys }
+        marks.old far.old.keys }
     requires narrow { IsNarrow v }
     ensures indexed { AreIndexed side (followed.now.items ++ waiting.new.items)
-        near.new.words.items far.new.keys }
+        marks.new far.new.keys }
     ensures waiting { OnOk result (waiting.new.items ≡
         with_pair followed.now.items waiting.old.items v) }
 {
     let Some(k) = number(side, v) else {
         return insert_far(waiting, far, v);
     };
-    if near.has(k) {
+    if is_marked(marks, k) {
         return Ok(());
     }
     waiting.push(v)?;
-    near.mark(k);
+    mark(marks, k);
     Ok(())
 }
 
@@ -115,24 +115,24 @@ fn insert(
 fn add_run(
     followed: &Vec<V2>,
     waiting: &mut Vec<V2>,
-    near: &mut MarkTable,
+    marks: &mut [u64],
     far: &mut IndexSet<V2>,
     side: usize,
     run: Run,
 ) -> Result<(), NoMemory>
     requires indexed { AreIndexed side (followed.now.items ++ waiting.old.items)
-        near.old.words.items far.old.keys }
+        marks.old far.old.keys }
     requires first { IsWithin (2 ^ 41) run.first }
     requires few { run.count ≤ 2 ^ 43 }
     requires narrow { (k : ℕ) → k < run.count → IsNarrow (run_pair run k) }
     ensures indexed { AreIndexed side (followed.now.items ++ waiting.new.items)
-        near.new.words.items far.new.keys }
+        marks.new far.new.keys }
     ensures added { OnOk result (AddsAll (followed.now.items ++ waiting.old.items) (run_pair run)
         run.count (followed.now.items ++ waiting.new.items) waiting.old.items waiting.new.items) }
 {
     let step = run.step();
     for k in 0..run.count {
-        insert(followed, waiting, near, far, side, run.pair(step, k))?;
+        insert(followed, waiting, marks, far, side, run.pair(step, k))?;
     }
     Ok(())
 }
@@ -227,7 +227,7 @@ impl PairSet {
             add_run(
                 &self.followed,
                 &mut self.waiting,
-                &mut self.near,
+                &mut self.near.words,
                 &mut self.far,
                 side,
                 run,
@@ -236,7 +236,7 @@ impl PairSet {
             add_run(
                 &self.followed,
                 &mut self.waiting,
-                &mut self.near,
+                &mut self.near.words,
                 &mut self.far,
                 side,
                 run,
@@ -253,7 +253,7 @@ impl PairSet {
         insert(
             &self.followed,
             &mut self.waiting,
-            &mut self.near,
+            &mut self.near.words,
             &mut self.far,
             side,
             v,

@@ -5,6 +5,6 @@ use Rattle.srs_wit.proofs.pair_set.add_run.Given as goal
 
 abbrev pub invariant-loop-k : goal.invariant-loop-k
 invariant-loop-k l = record {
-  indexed : AreIndexed l.side (l.followed.items ++ l.waiting.items) l.near.words.items l.far.keys;
+  indexed : AreIndexed l.side (l.followed.items ++ l.waiting.items) l.marks l.far.keys;
   added : AddsAll (l.followed.items ++ l.fn.waiting.items) (run_pair l.run) l.k (l.followed.items ++ l.waiting.items) l.fn.waiting.items l.waiting.items;
 }
