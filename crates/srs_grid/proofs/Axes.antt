@@ -1,18 +1,16 @@
 -- The forms along the axes.
-use Rattle.std.proofs.Common.{◌≡◌, ℕ, ◌+◌, ◌*◌, ◌^◌, ◌≤◌, ℤ, pos, ◌+ℤ◌, ◌-ℤ◌, ◌*ℤ◌, neg_ℤ, ◌≤ℤ◌, ◌<ℤ◌, [], ◌∷◌, sym, ap, ◌∙◌, add-one, arith}
+use Rattle.std.proofs.Common.{◌≡◌, ℕ, ◌+◌, ◌*◌, ◌^◌, ◌≤◌, ℤ, pos, ◌+ℤ◌, ◌-ℤ◌, ◌*ℤ◌, neg_ℤ, ◌≤ℤ◌, ◌<ℤ◌, [], ◌∷◌, sym, ap, ◌∙◌, arith}
 use Rattle.std.proofs.lemmas.Int.{ints}
-use Rattle.std.proofs.Math.Nat.{pow-succ'}
+use Rattle.std.proofs.lemmas.Nat.{pow-add}
 use Rattle.srs_num.specs.Points.{Point, LinearForm, value, IsNear, IsWithin}
 use Rattle.srs_num.proofs.Linear.{linear, mul_nonneg}
 use Rattle.srs_num.proofs.Ranges.{within_more}
 use Rattle.srs_num.proofs.Ring.{v, lit, ◌⊕◌, ◌⊖◌, ◌⊗◌, minus, ring}
-use Rattle.srs_plane.specs.Regions.{Area, IsIn, HasPoint, Divides}
+use Rattle.srs_plane.specs.Regions.{Area, IsIn, Divides}
 use Rattle.srs_path.specs.GridLine.{Axis, X, Y, form_along, grid_form}
-use Rattle.srs_grid.specs.declared.extents.Extent.{Extent}
-use Rattle.srs_grid.specs.Levels.{Splits, IsSpread, IsTwice}
-use Rattle.srs_grid.specs.Extents.{IsExtent, IsExtentSized}
-use Rattle.srs_grid.proofs.Parts.{power_within}
-use Rattle.srs_grid.proofs.Spreads.{level_within, extent_sized}
+use Rattle.srs_grid.specs.Levels.{Splits, IsSpread, IsTimes}
+use Rattle.srs_grid.proofs.Powers.{power_within}
+use Rattle.srs_grid.proofs.Spreads.{level_within}
 
 -- 2^m*x, or 2^m*y
 abbrev pub scaled : Axis → ℕ → LinearForm
@@ -60,14 +58,12 @@ divides_splits R axis m k s = record {
     down : (a b c : ℤ) → a ≡ b -ℤ c → a <ℤ pos 0 → b <ℤ c
     down a b c e h = omega (arith, linear)
 
-pub twice_scaled : (axis : Axis) (m : ℕ) → IsTwice (scaled axis m) (scaled axis (m + 1))
-twice_scaled axis m r =
-    value_scaled axis (m + 1) r ∙ ap (λ n. pos n *ℤ coordinate axis r) (doubled m)
-    ∙ ring (pos (2 ^ m) ∷ coordinate axis r ∷ []) (lit (pos 2) ⊗ v 0 ⊗ v 1) (lit (pos 2) ⊗ (v 0 ⊗ v 1)) tt
-    ∙ ap (λ x. pos 2 *ℤ x) (sym (value_scaled axis m r))
-  where
-    doubled : (m : ℕ) → 2 ^ (m + 1) ≡ 2 * 2 ^ m
-    doubled m = ap (λ n. 2 ^ n) (add-one m) ∙ pow-succ' 2 m
+-- at the finest level the form is so many times that of a coarser one
+pub times_scaled : (axis : Axis) (m finer : ℕ) → m + finer ≡ 36 → IsTimes (2 ^ finer) (scaled axis m) (scaled axis 36)
+times_scaled axis m finer e r =
+    value_scaled axis 36 r ∙ ap (λ n. pos (2 ^ n) *ℤ coordinate axis r) (sym e) ∙ ap (λ n. pos n *ℤ coordinate axis r) (pow-add 2 m finer)
+    ∙ ring (pos (2 ^ m) ∷ pos (2 ^ finer) ∷ coordinate axis r ∷ []) (v 0 ⊗ v 1 ⊗ v 2) (v 1 ⊗ (v 0 ⊗ v 2)) tt
+    ∙ ap (λ x. pos (2 ^ finer) *ℤ x) (sym (value_scaled axis m r))
 
 -- where each point is near, 2^m times a coordinate is at most 4 * 2^m in magnitude
 near_along : (axis : Axis) (r : Point) → IsNear r → (neg_ℤ (pos 4 *ℤ r.d) ≤ℤ coordinate axis r) × (coordinate axis r ≤ℤ (pos 4 *ℤ r.d))
@@ -105,8 +101,3 @@ scale_within m h = let small : 2 ^ m ≤ 2 ^ 36 = power_within m 36 h in omega a
 
 pub line_within : (R : Area) (axis : Axis) (m : ℕ) (k : ℤ) → ((r : Point) → IsIn R r → IsNear r) → m ≤ 36 → Splits R (scaled axis m) k → IsWithin (2 ^ 38) k
 line_within R axis m k near h split = within_more k (4 * 2 ^ m) (2 ^ 38) (level_within R (scaled axis m) (4 * 2 ^ m) k (spread_scaled R axis m near) split) (scale_within m h)
-
-pub scaled_sized : (R : Area) (axis : Axis) (m : ℕ) (s : Extent) → HasPoint R → ((r : Point) → IsIn R r → IsNear r) → m ≤ 36 → IsExtent R (scaled axis m) s → IsExtentSized s
-scaled_sized R axis m s point near h extent =
-    let small = scale_within m h in
-    extent_sized R (scaled axis m) (4 * 2 ^ m) s point (spread_scaled R axis m near) (omega arith) extent

@@ -1,6 +1,7 @@
-pub mod Parts
-pub mod Reaching
-pub mod Doubling
+pub mod Powers
 pub mod Spreads
 pub mod Axes
+pub mod Shifts
+pub mod Passing
+pub mod Turning
 pub mod Searching

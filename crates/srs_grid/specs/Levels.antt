@@ -7,10 +7,6 @@ use Rattle.srs_plane.specs.Regions.{Area, IsIn}
 abbrev pub Reaches : Area → LinearForm → ℤ → Type 0
 Reaches R f k = (r : Point) × IsIn R r × ((k *ℤ r.d) ≤ℤ value f r)
 
--- each point of R has f below k
-abbrev pub StaysUnder : Area → LinearForm → ℤ → Type 0
-StaysUnder R f k = (r : Point) → IsIn R r → value f r <ℤ (k *ℤ r.d)
-
 -- a point of R has f at least k, and a point of R has f below k
 pub record Splits (R : Area) (f : LinearForm) (k : ℤ) : Type 0 where
   pub not_below : Reaches R f k
@@ -29,6 +25,6 @@ abbrev pub IsSpread : Area → LinearForm → ℕ → Type 0
 IsSpread R f t = (r : Point) → IsIn R r → (neg_ℤ (pos t *ℤ r.d) ≤ℤ value f r) ×
     (value f r ≤ℤ (pos t *ℤ r.d))
 
--- g is twice f at each point
-abbrev pub IsTwice : LinearForm → LinearForm → Type 0
-IsTwice f g = (r : Point) → value g r ≡ pos 2 *ℤ value f r
+-- g is n times f at each point
+abbrev pub IsTimes : ℕ → LinearForm → LinearForm → Type 0
+IsTimes n f g = (r : Point) → value g r ≡ pos n *ℤ value f r

@@ -1,4 +1,4 @@
-use Rattle.srs_grid.proofs.Parts.{shifted, power_within}
+use Rattle.srs_grid.proofs.Powers.{shifted, power_within}
 use Rattle.srs_grid.proofs.lines.power.Goals as goal
 
 pub returns-clause-value : goal.returns-clause-value
