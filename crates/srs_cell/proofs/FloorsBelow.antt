@@ -10,7 +10,7 @@ use Rattle.srs_num.proofs.Linear.{linear, mul_mono}
 use Rattle.srs_num.proofs.Ranges.{within_product, within_sum, within_more}
 use Rattle.srs_num.proofs.Identities.{value-opposite}
 use Rattle.srs_map.proofs.FormStep.{value-flat}
-use Rattle.srs_cell.specs.Floors.{form_of, IsFloorBelow, AreFloorsBelow, IsRatioWithin, AreFloorsOf, IsLesserFloor, IsLesser, AreLessened}
+use Rattle.srs_cell.specs.Floors.{form_of, IsFloorBelow, AreFloorsBelow, IsRatioWithin, AreFloorsOf, IsLesserFloor, AreLessened}
 use Rattle.srs_cell.specs.declared.floors.Floors.{Floors}
 
 -- the value of a pair with entries within m at a near point
@@ -96,25 +96,3 @@ floors_first m f cs M sized c lt read n d floors en ed h =
 
     same : (n k : ℤ) → IsFloor n d k → IsWithin m k → IsLesserFloor m n d k k
     same n k f r = record { not_above = f.not_above; not_more = least k; taken = inl refl; range = r }
-
--- the lesser of both floors, where those are of n / d and of -n / d
-pub lesser_both : (m : ℕ) (n d : ℤ) (old here new : Floors) → pos 1 ≤ℤ d → IsWithin m old.ahead → IsWithin m old.back → AreFloorsOf m n d here → IsLesser old.ahead here.ahead new.ahead → IsLesser old.back here.back new.back → AreLessened m n d old new
-lesser_both m n d old here new h wa wb f a b = record {
-  ahead = one n old.ahead here.ahead new.ahead wa f.ahead f.ahead_range a;
-  back = one (neg_ℤ n) old.back here.back new.back wb f.back f.back_range b;
-}
-  where
-    same : (a : ℤ) → a ≤ℤ a
-    same a = omega (arith, linear)
-
-    at_most : (a b : ℤ) → a <ℤ b → a ≤ℤ b
-    at_most a b h = omega (arith, linear)
-
-    one : (n least k j : ℤ) → IsWithin m least → IsFloor n d k → IsWithin m k → IsLesser least k j → IsLesserFloor m n d least j
-    one n least k j w f r (inl (e, lt)) = subst (IsLesserFloor m n d least) (sym e) (record { not_above = f.not_above; not_more = at_most _ _ lt; taken = inr f.greatest; range = r })
-    one n least k j w f r (inr (e, le)) = subst (IsLesserFloor m n d least) (sym e) (record {
-      not_above = through _ _ _ (mul_mono least k d (at_least d h) le) f.not_above;
-      not_more = same least;
-      taken = inl refl;
-      range = w;
-    })

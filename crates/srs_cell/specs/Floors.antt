@@ -61,7 +61,3 @@ pub record IsLesserFloor (m : ℕ) (n d least k : ℤ) : Type 0 where
 pub record AreLessened (m : ℕ) (n d : ℤ) (old new : Floors) : Type 0 where
   pub ahead : IsLesserFloor m n d old.ahead new.ahead
   pub back : IsLesserFloor m (neg_ℤ n) d old.back new.back
-
--- k is the lesser of a and b
-abbrev pub IsLesser : ℤ → ℤ → ℤ → Type 0
-IsLesser a b k = ((k ≡ b) × (b <ℤ a)) ⊎ ((k ≡ a) × (a ≤ℤ b))

@@ -1,15 +1,17 @@
 // The least floors of the value of a pair at the corners of a cell.
 ghost use Rattle.std.specs.Prelude.{◌≡◌, ◌≤◌, ◌^◌, IsTrue, IfOk, All, length};
+ghost use Rattle.srs_num.specs.Floor.{IsFloor};
 ghost use Rattle.srs_num.specs.Points.{value, IsNear, IsWithin, IsPointWithin};
 ghost use Rattle.srs_map.specs.Step.{IsNarrow};
 ghost use Rattle.srs_cell.specs.Tallies.{IsTally};
 ghost use Rattle.srs_cell.specs.Floors.{form_of, AreFloorsBelow, IsRatioWithin, AreFloorsOf};
-ghost use Rattle.srs_cell.specs.Floors.{IsLesserFloor, IsLesser, AreLessened};
+ghost use Rattle.srs_cell.specs.Floors.{IsLesserFloor, AreLessened};
 
 use crate::bounds::denominator;
 use crate::corners::copied;
 use crate::moves::step_form;
 use crate::tallies::{Tally, tally_of};
+use crate::values::value_of;
 use srs_num::{Corner, Form, NoMemory, V2, floor_div};
 use std::alloc::Global;
 use std::marker::Model;
@@ -53,6 +55,20 @@ impl Floors {
         Floors {
             ahead: lesser_floor(n, d, self.ahead),
             back: lesser_floor(-n, d, self.back),
+        }
+    }
+
+    // The same, for numbers of any size that a cell has.
+    fn wide_lessened(self, n: i128, d: i128) -> Floors
+        requires size { IsWithin (2 ^ 77) d }
+        requires near { IsRatioWithin (2 ^ 40) n d }
+        requires ahead { IsWithin (2 ^ 40) self.ahead }
+        requires back { IsWithin (2 ^ 40) self.back }
+        ensures { AreLessened (2 ^ 40) n d self result }
+    {
+        Floors {
+            ahead: wide_lesser_floor(n, d, self.ahead),
+            back: wide_lesser_floor(-n, d, self.back),
         }
     }
 }
@@ -109,43 +125,63 @@ fn short_floors(corners: &[Corner], w: V2) -> Floors
     floors
 }
 
-// The floors of n / d and of -n / d, for numbers of any size that a cell has.
+// The floor of n / d, for numbers of any size that a cell has. It is so small that 64 bits hold it.
+fn wide_floor(n: i128, d: i128) -> i64
+    requires size { IsWithin (2 ^ 77) d }
+    requires near { IsRatioWithin (2 ^ 40) n d }
+    ensures floor { IsFloor n d result }
+    ensures range { IsWithin (2 ^ 40) result }
+{
+    floor_div(n, d) as i64
+}
+
+// The floors of n / d and of -n / d, for such numbers.
 fn wide_floors_of(n: i128, d: i128) -> Floors
     requires size { IsWithin (2 ^ 77) d }
     requires near { IsRatioWithin (2 ^ 40) n d }
     ensures { AreFloorsOf (2 ^ 40) n d result }
 {
+    let ahead = wide_floor(n, d);
     Floors {
-        ahead: floor_div(n, d) as i64,
-        back: floor_div(-n, d) as i64,
+        ahead,
+        back: if ahead as i128 * d < n {
+            -ahead - 1
+        } else {
+            -ahead
+        },
     }
 }
 
-// The lesser of two numbers.
-fn lesser(a: i64, b: i64) -> i64
-    ensures { IsLesser a b result }
+// As `lesser_floor`, for such numbers.
+fn wide_lesser_floor(n: i128, d: i128, least: i64) -> i64
+    requires size { IsWithin (2 ^ 77) d }
+    requires near { IsRatioWithin (2 ^ 40) n d }
+    requires least { IsWithin (2 ^ 40) least }
+    ensures { IsLesserFloor (2 ^ 40) n d least result }
 {
-    if b < a { b } else { a }
+    if n < least as i128 * d {
+        wide_floor(n, d)
+    } else {
+        least
+    }
 }
 
 // The least floors at some corners, by numbers of 128 bits.
 #[inline(never)]
-fn wide_floors(corners: &[Corner], w: V2) -> Floors
+fn wide_floors(corners: &[Corner], short: bool, w: V2) -> Floors
     requires some { 1 ≤ length corners.now }
     requires near { All IsNear corners.now }
     requires sized { All (IsPointWithin (2 ^ 77)) corners.now }
+    requires short { IsTrue short → All (IsPointWithin (2 ^ 38)) corners.now }
     requires narrow { IsNarrow w }
     ensures { AreFloorsBelow (2 ^ 40) (form_of w) corners.now corners.now result }
 {
     let form = step_form(w);
-    let first = corners[0];
-    let mut floors = wide_floors_of(form.at_corner(&first), denominator(&first));
-    for corner in corners {
-        let here = wide_floors_of(form.at_corner(corner), denominator(corner));
-        floors = Floors {
-            ahead: lesser(floors.ahead, here.ahead),
-            back: lesser(floors.back, here.back),
-        };
+    let first = &corners[0];
+    let mut floors = wide_floors_of(value_of(&form, first, short), denominator(first));
+    for i in 1..corners.len() {
+        let corner = &corners[i];
+        floors = floors.wide_lessened(value_of(&form, corner, short), denominator(corner));
     }
     floors
 }
@@ -245,7 +281,7 @@ impl CornerList {
         if self.short && is_short_pair(w) {
             short_floors(&self.items, w)
         } else {
-            wide_floors(&self.items, w)
+            wide_floors(&self.items, self.short, w)
         }
     }
 }

@@ -2,5 +2,5 @@ use Rattle.std.proofs.Common.{◌^◌, take}
 use Rattle.srs_cell.specs.Floors.{form_of, AreFloorsBelow}
 use Rattle.srs_cell.proofs.floors.wide_floors.Given as goal
 
-abbrev pub invariant-loop-corner : goal.invariant-loop-corner
-invariant-loop-corner l = AreFloorsBelow (2 ^ 40) (form_of l.fn.w) l.corners (take l.corner-index l.corners) l.floors
+abbrev pub invariant-loop-i : goal.invariant-loop-i
+invariant-loop-i l = AreFloorsBelow (2 ^ 40) (form_of l.fn.w) l.corners (take l.i l.corners) l.floors
