@@ -107,12 +107,13 @@ pub(crate) fn denominator(corner: &Corner) -> i128
 }
 
 // Whether the form isn't above the whole number at the corner.
-fn is_up_to(form: &Form, corner: &Corner, most: i64) -> bool
+fn is_up_to(form: &Form, corner: &Corner, short: bool, most: i64) -> bool
     requires corner { IsPointWithin (2 ^ 77) corner.now }
+    requires short { IsTrue short → IsPointWithin (2 ^ 38) corner.now }
     requires most { IsWithin (2 ^ 40) most }
     ensures { IsTrue result ↔ (value form.now corner.now ≤ℤ (most *ℤ corner.now.d)) }
 {
-    value_at(form, corner) <= most as i128 * denominator(corner)
+    value_of(form, corner, short) <= most as i128 * denominator(corner)
 }
 
 // The first of the corners at which the form isn't above the whole number.
@@ -122,18 +123,19 @@ fn first_taking(form: &Form, corners: &CornerList, most: i64) -> Option<Corner>
     ensures { MatchOption result (All (λ c. (most *ℤ c.d) <ℤ value form.now c) corners.now)
         (λ c. Contains corners.now c × (value form.now c ≤ℤ (most *ℤ c.d))) }
 {
-    first_of(form, corners.as_slice(), most)
+    first_of(form, corners.as_slice(), corners.is_short(), most)
 }
 
 // The same, of a slice.
-fn first_of(form: &Form, corners: &[Corner], most: i64) -> Option<Corner>
+fn first_of(form: &Form, corners: &[Corner], short: bool, most: i64) -> Option<Corner>
     requires sized { All (IsPointWithin (2 ^ 77)) corners.now }
+    requires short { IsTrue short → All (IsPointWithin (2 ^ 38)) corners.now }
     requires most { IsWithin (2 ^ 40) most }
     ensures { MatchOption result (All (λ c. (most *ℤ c.d) <ℤ value form.now c) corners.now)
         (λ c. Contains corners.now c × (value form.now c ≤ℤ (most *ℤ c.d))) }
 {
     for corner in corners {
-        if is_up_to(form, corner, most) {
+        if is_up_to(form, corner, short, most) {
             return Some(*corner);
         }
     }
