@@ -68,6 +68,25 @@ near_from_bits side v row column small narrow e h f k =
     below_column : (s : ℕ) (b : ℤ) (c : ℕ) → pos 0 ≤ℤ (b +ℤ pos s) → unsigned_abs (b +ℤ pos s) ≡ c → c < 2 * s → b <ℤ pos s
     below_column s b c h e l = omega (arith, ints)
 
+-- the bits of a near pair
+pub near_bits : (side : ℕ) (v : V2) (row column : ℕ) → side ≤ 2 ^ 10 → IsNear side v → row ≡ of_z w64 (to_z w64 (of_z w64 v.a))
+    → column ≡ of_z w64 (to_z w64 (of_z w64 (to_z w64 (of_z w64 v.b) +ℤ to_z w64 side))) → IsNumber side v (row * (2 * side) + column)
+near_bits side v row column small near e f =
+    near_from_bits side v row column small (narrow_a side v.a small near.from_a near.below_a, narrow_b side v.b small near.from_b near.below_b)
+    e (row_below side v.a row small near.from_a near.below_a e) f (column_below side v.b column small near.from_b near.below_b f)
+  where
+    narrow_a : (s : ℕ) (a : ℤ) → s ≤ 2 ^ 10 → pos 0 ≤ℤ a → a <ℤ pos s → unsigned_abs a ≤ 2 ^ 37
+    narrow_a s a l h k = omega (arith, ints)
+
+    narrow_b : (s : ℕ) (b : ℤ) → s ≤ 2 ^ 10 → neg_ℤ (pos s) ≤ℤ b → b <ℤ pos s → unsigned_abs b ≤ 2 ^ 37
+    narrow_b s b l h k = omega (arith, ints)
+
+    row_below : (s : ℕ) (a : ℤ) (r : ℕ) → s ≤ 2 ^ 10 → pos 0 ≤ℤ a → a <ℤ pos s → r ≡ of_z w64 (to_z w64 (of_z w64 a)) → r < s
+    row_below s a r l h k e = omega (arith, ints)
+
+    column_below : (s : ℕ) (b : ℤ) (c : ℕ) → s ≤ 2 ^ 10 → neg_ℤ (pos s) ≤ℤ b → b <ℤ pos s → c ≡ of_z w64 (to_z w64 (of_z w64 (to_z w64 (of_z w64 b) +ℤ to_z w64 s))) → c < 2 * s
+    column_below s b c l h k e = omega (arith, ints)
+
 -- near pairs with one number are one pair
 one_number : (side : ℕ) (v u : V2) → IsNear side v → IsNear side u → number_of side v ≡ number_of side u → v ≡ u
 one_number side v u h k e =

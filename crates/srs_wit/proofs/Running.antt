@@ -18,7 +18,7 @@ use Rattle.srs_path.specs.Core.{pair_eq}
 use Rattle.srs_path.proofs.WitnessLemmas.{pair-decides}
 use Rattle.srs_wit.specs.declared.runs.Run.{Run}
 use Rattle.srs_wit.specs.Runs.{run_pair, IsRunOf, turned, AddsAll}
-use Rattle.srs_wit.specs.PairSets.{has_pair, with_pair}
+use Rattle.srs_wit.specs.PairSets.{has_pair, with_pair, IsNear}
 use Rattle.srs_wit.proofs.Adding.{contains_one, absent_pair}
 
 module _ (old : List V2) (f : ℕ → V2) (k : ℕ) (now waited wait : List V2) (a : AddsAll old f k now waited wait) (v : V2) (is : v ≡ f k) where
@@ -141,3 +141,33 @@ module _ (old : List V2) (f : ℕ → V2) (k : ℕ) (followed waited wait : List
 pub first_within : (m : ℕ) (low high first : ℤ) (back : Bool) → first ≡ (if back then high else low) → IsWithin m low → IsWithin m high → IsWithin m first
 first_within m low high first true e l h = subst (IsWithin m) (sym e) h
 first_within m low high first false e l h = subst (IsWithin m) (sym e) l
+
+-- the pairs of a run are near where the first and the last of them are
+module _ (side : ℕ) (r : Run) (from : pos 0 ≤ℤ r.a) (below : r.a <ℤ pos side) where
+  pub near_downward : r.back ≡ true → r.first <ℤ pos side → neg_ℤ (pos side) ≤ℤ (r.first -ℤ (pos r.count -ℤ pos 1)) → (k : ℕ) → k < r.count → IsNear side (run_pair r k)
+  near_downward back first last k l = rw back (record {
+    from_a = from;
+    below_a = below;
+    from_b = low side r.first r.count k l last;
+    below_b = high side r.first k first;
+  })
+    where
+      low : (s : ℕ) (f : ℤ) (n k : ℕ) → k < n → neg_ℤ (pos s) ≤ℤ (f -ℤ (pos n -ℤ pos 1)) → neg_ℤ (pos s) ≤ℤ (f -ℤ pos k)
+      low s f n k l h = omega (arith, ints)
+
+      high : (s : ℕ) (f : ℤ) (k : ℕ) → f <ℤ pos s → (f -ℤ pos k) <ℤ pos s
+      high s f k h = omega (arith, ints)
+
+  pub near_upward : r.back ≡ false → neg_ℤ (pos side) ≤ℤ r.first → (r.first +ℤ (pos r.count -ℤ pos 1)) <ℤ pos side → (k : ℕ) → k < r.count → IsNear side (run_pair r k)
+  near_upward back first last k l = rw back (record {
+    from_a = from;
+    below_a = below;
+    from_b = low side r.first k first;
+    below_b = high side r.first r.count k l last;
+  })
+    where
+      low : (s : ℕ) (f : ℤ) (k : ℕ) → neg_ℤ (pos s) ≤ℤ f → neg_ℤ (pos s) ≤ℤ (f +ℤ pos k)
+      low s f k h = omega (arith, ints)
+
+      high : (s : ℕ) (f : ℤ) (n k : ℕ) → k < n → (f +ℤ (pos n -ℤ pos 1)) <ℤ pos s → (f +ℤ pos k) <ℤ pos s
+      high s f n k l h = omega (arith, ints)

@@ -1,9 +1,13 @@
 -- Pairs with one first entry, in a row.
-use Rattle.std.specs.Prelude.{◌≡◌, ◌≢◌, ℕ, ◌+◌, ◌<◌, ◌≤◌, ◌⊎◌, ◌++◌, if◌then◌else◌, not, ℤ, pos, negsuc, ◌+ℤ◌, ◌-ℤ◌, List, length, Contains, AllPairs}
+use Rattle.std.specs.Prelude.{◌≡◌, ◌≢◌, ℕ, ◌+◌, ◌<◌, ◌≤◌, ◌⊎◌, ◌++◌, if◌then◌else◌, Bool, not, ℤ, pos, negsuc, ◌+ℤ◌, ◌-ℤ◌, List, length, Contains, AllPairs}
 use Rattle.srs_num.specs.declared.pairs.V2.{V2}
 use Rattle.srs_map.specs.Step.{pair}
 use Rattle.srs_wit.specs.declared.runs.Run.{Run}
 use Rattle.srs_wit.specs.declared.runs.Step.{Step}
+
+-- the run of these numbers
+abbrev pub run_with : ℤ → ℤ → ℕ → Bool → Run
+run_with a first count back = record { a = a; first = first; count = count; back = back }
 
 -- the pair number k of the run
 abbrev pub run_pair : Run → ℕ → V2

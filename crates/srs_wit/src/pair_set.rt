@@ -1,13 +1,13 @@
 // A set of pairs that is looked up fast where their entries are small.
 ghost use Rattle.std.specs.Prelude.{◌≡◌, ◌≤◌, ◌<◌, ◌*◌, ◌^◌, ◌++◌, [], ◌∷◌, length};
-ghost use Rattle.std.specs.Prelude.{if◌then◌else◌, ℕ, MatchOption, IfOk, OnOk, OnErr};
+ghost use Rattle.std.specs.Prelude.{if◌then◌else◌, ℕ, List, MatchOption, IsTrue, IfOk, OnOk, OnErr};
 ghost use Rattle.indexmap.specs.IndexSet.{insert_key};
 ghost use Rattle.srs_map.specs.Step.{IsNarrow};
 ghost use Rattle.srs_path.specs.Core.{pair_eq};
 ghost use Rattle.srs_num.specs.Points.{IsWithin};
 ghost use Rattle.srs_wit.specs.PairSets.{has_pair, with_pair, IsNear, IsNumber, AreIndexed};
 ghost use Rattle.srs_wit.specs.PairSets.{all_of, IsNext, HasOneMore};
-ghost use Rattle.srs_wit.specs.Runs.{run_pair, AddsAll};
+ghost use Rattle.srs_wit.specs.Runs.{run_pair, run_with, AddsAll};
 
 use crate::marks::{MarkTable, is_marked, mark};
 use crate::runs::Run;
@@ -58,6 +58,38 @@ fn number(side: usize, v: V2) -> Option<usize>
     Some(row * (2 * side) + column)
 }
 
+// The number of a near pair, row by row.
+#[inline(always)]
+fn number_of_near(side: usize, v: V2) -> usize
+    requires small { side ≤ 2 ^ 10 }
+    requires near { IsNear side v }
+    ensures { IsNumber side v result }
+{
+    let row = v.a.cast_unsigned() as usize;
+    let column = (v.b + side as i64).cast_unsigned() as usize;
+    row * (2 * side) + column
+}
+
+// Whether all pairs of the run are near.
+#[inline(always)]
+fn is_near_run(side: usize, run: Run) -> bool
+    requires small { side ≤ 2 ^ 10 }
+    requires first { IsWithin (2 ^ 41) run.first }
+    requires few { run.count ≤ 2 ^ 43 }
+    ensures { IsTrue result → (k : ℕ) → k < run.count → IsNear side (run_pair run k) }
+{
+    let side = side as i64;
+    if run.a < 0 || run.a >= side {
+        return false;
+    }
+    let more = run.count as i64 - 1;
+    if run.back {
+        run.first < side && -side <= run.first - more
+    } else {
+        -side <= run.first && run.first + more < side
+    }
+}
+
 // Adds the pair to those far away and to those that wait, unless it is among those far away.
 #[inline(never)]
 fn insert_far(waiting: &mut Vec<V2>, far: &mut IndexSet<V2>, v: V2) -> Result<(), NoMemory>
@@ -81,6 +113,30 @@ fn insert_far(waiting: &mut Vec<V2>, far: &mut IndexSet<V2>, v: V2) -> Result<()
     }
 }
 
+// Adds the near pair, which has this number, to those that wait, unless it is there.
+#[inline(always)]
+fn insert_near(
+    waiting: &mut Vec<V2>,
+    marks: &mut [u64],
+    k: usize,
+    v: V2,
+) -> Result<(), NoMemory>
+    requires { k < 64 * length marks.old }
+    ensures indexed { (side : ℕ) (followed far : List V2) → IsNumber side v k
+        → AreIndexed side (followed ++ waiting.old.items) marks.old far
+        → AreIndexed side (followed ++ waiting.new.items) marks.new far }
+    ensures waiting { (side : ℕ) (followed far : List V2) → IsNumber side v k
+        → AreIndexed side (followed ++ waiting.old.items) marks.old far
+        → OnOk result (waiting.new.items ≡ with_pair followed waiting.old.items v) }
+{
+    if is_marked(marks, k) {
+        return Ok(());
+    }
+    waiting.push(v)?;
+    mark(marks, k);
+    Ok(())
+}
+
 // Adds the pair to those that wait, unless it is there.
 #[inline(always)]
 fn insert(
@@ -99,18 +155,42 @@ fn insert(
     ensures waiting { OnOk result (waiting.new.items ≡
         with_pair followed.now.items waiting.old.items v) }
 {
-    let Some(k) = number(side, v) else {
-        return insert_far(waiting, far, v);
-    };
-    if is_marked(marks, k) {
-        return Ok(());
+    match number(side, v) {
+        Some(k) => insert_near(waiting, marks, k, v),
+        None => insert_far(waiting, far, v),
     }
-    waiting.push(v)?;
-    mark(marks, k);
+}
+
+// Adds the pairs of the run, which are near, to those that wait, unless they are there.
+#[inline(always)]
+fn add_near_run(
+    followed: &Vec<V2>,
+    waiting: &mut Vec<V2>,
+    marks: &mut [u64],
+    far: &IndexSet<V2>,
+    side: usize,
+    run: Run,
+) -> Result<(), NoMemory>
+    requires indexed { AreIndexed side (followed.now.items ++ waiting.old.items)
+        marks.old far.now.keys }
+    requires first { IsWithin (2 ^ 41) run.first }
+    requires few { run.count ≤ 2 ^ 43 }
+    requires near { (k : ℕ) → k < run.count → IsNear side (run_pair run k) }
+    ensures indexed { AreIndexed side (followed.now.items ++ waiting.new.items)
+        marks.new far.now.keys }
+    ensures added { OnOk result (AddsAll (followed.now.items ++ waiting.old.items) (run_pair run)
+        run.count (followed.now.items ++ waiting.new.items) waiting.old.items waiting.new.items) }
+{
+    let step = run.step();
+    for place in 0..run.count {
+        let v = run.pair(step, place);
+        insert_near(waiting, marks, number_of_near(side, v), v)?;
+    }
     Ok(())
 }
 
-// Adds the pairs of the run to those that wait, unless they are there.
+// Adds the pairs of the run, some of which may be far away, to those that wait, unless they are
+// there.
 #[inline(always)]
 fn add_run(
     followed: &Vec<V2>,
@@ -221,27 +301,62 @@ impl PairSet {
         ensures { OnOk result (AddsAll (all_of self.old) (run_pair run) run.count (all_of self.new)
             self.old.waiting self.new.waiting) }
     {
-        let side = self.side;
         // Two loops, each of which goes one way.
         if run.back {
-            add_run(
-                &self.followed,
-                &mut self.waiting,
-                &mut self.near.words,
-                &mut self.far,
-                side,
-                run,
-            )
+            self.add_one_way(run)
         } else {
-            add_run(
+            self.add_one_way(run)
+        }
+    }
+
+    // The same.
+    #[inline(always)]
+    fn add_one_way(&mut self, run: Run) -> Result<(), NoMemory>
+        requires first { IsWithin (2 ^ 41) run.first }
+        requires few { run.count ≤ 2 ^ 43 }
+        requires narrow { (k : ℕ) → k < run.count → IsNarrow (run_pair run k) }
+        ensures { OnOk result (AddsAll (all_of self.old) (run_pair run) run.count (all_of self.new)
+            self.old.waiting self.new.waiting) }
+    {
+        let side = self.side;
+        if is_near_run(side, run) {
+            return add_near_run(
                 &self.followed,
                 &mut self.waiting,
                 &mut self.near.words,
-                &mut self.far,
+                &self.far,
                 side,
                 run,
-            )
+            );
         }
+        self.add_far_run(run.a, run.first, run.count, run.back)
+    }
+
+    // The same, of a run of which some pairs may be far away. The numbers of the run come one by one,
+    // so that they need no place in memory where a run is near.
+    #[inline(never)]
+    fn add_far_run(&mut self, a: i64, first: i64, count: u64, back: bool) -> Result<(), NoMemory>
+        requires first { IsWithin (2 ^ 41) first }
+        requires few { count ≤ 2 ^ 43 }
+        requires narrow { (k : ℕ) → k < count → IsNarrow (run_pair (run_with a first count back) k) }
+        ensures { OnOk result (AddsAll (all_of self.old) (run_pair (run_with a first count back))
+            count (all_of self.new) self.old.waiting self.new.waiting) }
+    {
+        let side = self.side;
+        let run = Run {
+            a,
+            first,
+            count,
+            back,
+        };
+        add_run(
+            &self.followed,
+            &mut self.waiting,
+            &mut self.near.words,
+            &mut self.far,
+            side,
+            run,
+        )
     }
 
     // Adds the pair, which waits if it is new.
