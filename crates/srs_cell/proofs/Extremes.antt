@@ -6,7 +6,7 @@ use Rattle.srs_num.specs.Points.{LinearForm, Point, value, opposite}
 use Rattle.srs_num.proofs.Combinations.{combine, mix, depth}
 use Rattle.srs_cell.specs.Hull.{IsInHalves, IsAbove, IsHull}
 use Rattle.srs_num.specs.Lines.{sum_of}
-use Rattle.srs_num.proofs.Linear.{linear, mul_zero, mul_one, mul_comm, mul_nonneg, mul_pos}
+use Rattle.srs_num.proofs.Linear.{linear, mul_zero, mul_one, mul_comm, mul_nonneg}
 use Rattle.srs_num.proofs.Ring.{v, lit, ◌⊕◌, ◌⊖◌, ◌⊗◌, minus, ring}
 use Rattle.srs_num.proofs.Identities.{value-combine, value-mix, value-depth, value-opposite, value-nothing, value-plus}
 

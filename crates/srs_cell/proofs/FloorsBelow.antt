@@ -1,5 +1,5 @@
 -- The floors over some corners, one corner after another.
-use Rattle.std.proofs.Common.{◌≡◌, inl, inr, ℕ, ◌+◌, ◌*◌, ◌<◌, ◌≤◌, List, [], length, take, take_all, get_or, ℤ, pos, negsuc, neg_ℤ, ◌+ℤ◌, ◌*ℤ◌, ◌≤ℤ◌, ◌<ℤ◌, All, refl, sym, ◌∙◌, ap, subst, arith}
+use Rattle.std.proofs.Common.{◌≡◌, inl, inr, ℕ, ◌+◌, ◌*◌, ◌<◌, List, [], length, take, get_or, ℤ, pos, negsuc, neg_ℤ, ◌+ℤ◌, ◌*ℤ◌, ◌≤ℤ◌, ◌<ℤ◌, All, refl, sym, ◌∙◌, ap, subst, arith}
 use Rattle.std.specs.List.{Contains}
 use Rattle.std.proofs.lemmas.Int.{ints}
 use Rattle.std.proofs.lemmas.List.Elements.{All-nil, All-more, All-take, All-contains}
@@ -7,7 +7,7 @@ use Rattle.srs_num.specs.declared.pairs.V2.{V2}
 use Rattle.srs_num.specs.Points.{Point, LinearForm, value, opposite, IsPoint, IsNear, IsWithin, IsPointWithin}
 use Rattle.srs_num.specs.Floor.{IsFloor}
 use Rattle.srs_num.proofs.Linear.{linear, mul_mono}
-use Rattle.srs_num.proofs.Ranges.{within_product, within_sum, within_more}
+use Rattle.srs_num.proofs.Ranges.{within_product, within_sum}
 use Rattle.srs_num.proofs.Identities.{value-opposite}
 use Rattle.srs_map.proofs.FormStep.{value-flat}
 use Rattle.srs_cell.specs.Floors.{form_of, IsFloorBelow, AreFloorsBelow, IsRatioWithin, AreFloorsOf, IsLesserFloor, AreLessened}

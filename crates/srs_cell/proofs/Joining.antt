@@ -1,6 +1,5 @@
 -- Corners with one more, or without it where it is a double.
 use Rattle.std.proofs.Common.{◌≡◌, ◌^◌, List, [], ◌∷◌, ◌++◌, ℤ, pos, neg_ℤ, ◌*ℤ◌, ◌+ℤ◌, ◌≤ℤ◌, ◌<ℤ◌, All, Some, refl, ap₂, ◌∙◌, subst, arith, length-append}
-use Rattle.std.proofs.lemmas.Int.{by_lt_z}
 use Rattle.std.proofs.lemmas.List.Elements.{All-push, All-pop}
 use Rattle.srs_num.specs.Points.{LinearForm, Point, value, opposite, IsPointWithin}
 use Rattle.srs_num.proofs.Linear.{linear, mul_nonneg, nonneg_from}

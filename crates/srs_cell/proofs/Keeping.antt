@@ -1,6 +1,6 @@
 -- Corners sorted by a line, one at a time.
 use Rattle.std.proofs.Common.{◌≡◌, List, [], ◌∷◌, ◌++◌, pos, ◌≤ℤ◌, ◌<ℤ◌, All, Some, refl, arith, length-append}
-use Rattle.std.proofs.lemmas.List.Elements.{All-nil, All-push, All-pop}
+use Rattle.std.proofs.lemmas.List.Elements.{All-push, All-pop}
 use Rattle.srs_num.specs.Points.{LinearForm, Point, value, IsPointWithin}
 use Rattle.srs_cell.specs.Hull.{IsInHalves}
 use Rattle.srs_cell.specs.Cutting.{IsKept}

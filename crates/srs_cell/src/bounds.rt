@@ -3,7 +3,7 @@ ghost use Rattle.std.specs.Prelude.{◌≡◌, ◌≤◌, ◌^◌, ◌↔◌, Is
 ghost use Rattle.std.specs.Prelude.{pos, ◌*ℤ◌, ◌≤ℤ◌, ◌<ℤ◌};
 ghost use Rattle.srs_num.specs.Points.{Point, value, IsNear, IsWithin, IsPointWithin};
 ghost use Rattle.srs_plane.specs.Regions.{IsIn};
-ghost use Rattle.srs_cell.specs.Bounds.{IsInfimum, IsLow, IsHigh, IsBoundSized, AreShort};
+ghost use Rattle.srs_cell.specs.Bounds.{IsLow, IsHigh, IsBoundSized, AreShort};
 ghost use Rattle.srs_cell.specs.Bounds.{IsLeastCorner, IsLeastSum, Takes};
 ghost use Rattle.srs_cell.specs.Floors.{IsLeastFloor};
 
@@ -25,29 +25,7 @@ pub struct Bound {
     pub attained: bool,
 }
 
-/// The number `num / den`, with `den` at least 1. The fraction isn't always reduced.
-#[derive(Clone, Copy, Debug, PartialEq, Eq, Drop)]
-pub struct Quotient {
-    pub num: i128,
-    pub den: i128,
-}
-
 impl Cell {
-    /// The infimum of the form over the points of the cell. It takes no memory, and goes over the
-    /// at most 84 corners once.
-    pub fn infimum(&self, f: &Form) -> Quotient
-        ensures positive { pos 1 ≤ℤ result.den }
-        ensures infimum { IsInfimum self.now f.now result.num result.den }
-        ensures num_range { IsWithin (2 ^ 117) result.num }
-        ensures den_range { IsWithin (2 ^ 77) result.den }
-    {
-        let least = least_corner(f, self.corners());
-        Quotient {
-            num: value_at(f, &least),
-            den: denominator(&least),
-        }
-    }
-
     /// The infimum of the form over the points of the cell, and whether a point takes it. It takes
     /// no memory: it goes over the at most 84 corners twice and over the halves once. All points of
     /// a cell are near, which bounds the value of a form of bounded numbers.
@@ -178,7 +156,7 @@ pub(crate) fn are_half(n: i128, d: i128, m: i128, e: i128) -> bool
 }
 
 // Whether n * e is less than m * d.
-pub(crate) fn is_less_product(n: i128, d: i128, m: i128, e: i128) -> bool
+fn is_less_product(n: i128, d: i128, m: i128, e: i128) -> bool
     requires n { IsWithin (2 ^ 62) n }
     requires d { IsWithin (2 ^ 62) d }
     requires m { IsWithin (2 ^ 62) m }

@@ -99,8 +99,8 @@ pub(crate) fn clip_corners(
     let Some(second) = section.second else {
         unreachable!()
     };
-    join_corner(&mut part, &section.line, first, true)?;
-    join_corner(&mut part, &section.line, second, true)?;
+    join_corner(&mut part, first, true)?;
+    join_corner(&mut part, second, true)?;
     Ok(Remains::Part(part))
 }
 
@@ -181,7 +181,7 @@ pub(crate) fn part_corners(
         unreachable!()
     };
     let may_double = tally.may_double();
-    join_corner(&mut part, &section.line, first, may_double)?;
-    join_corner(&mut part, &section.line, second, may_double)?;
+    join_corner(&mut part, first, may_double)?;
+    join_corner(&mut part, second, may_double)?;
     Ok(part)
 }

@@ -15,7 +15,7 @@ mod spans;
 mod tallies;
 mod values;
 
-pub use bounds::{Bound, Quotient};
+pub use bounds::Bound;
 pub use cells::Cell;
 pub use divisions::Parts;
 pub use sharing::shared;

@@ -49,7 +49,7 @@ fn sides_of_cells(rt: HostRuntime) -> Result<(), Fail> {
 
 // Whether the infimum of the form on the shape is this number, which is whole.
 fn has_infimum(alloc: Global, shape: &Shape, form: &Form, whole: i128) -> Result<bool, Fail> {
-    let bound = cell(alloc, shape)?.infimum(form);
+    let bound = cell(alloc, shape)?.low(form);
     Ok(whole.checked_mul(bound.den) == Some(bound.num))
 }
 

@@ -13,7 +13,7 @@ use Rattle.srs_path.specs.Core.{pair_eq}
 use Rattle.srs_path.proofs.WitnessLemmas.{pair-decides}
 use Rattle.srs_wit.specs.Marks.{is_marked, Marks}
 use Rattle.srs_wit.proofs.Permuting.{moved_last}
-use Rattle.srs_wit.specs.PairSets.{has_pair, with_pair, IsNear, IsNumber, AreIndexed, number_of}
+use Rattle.srs_wit.specs.PairSets.{has_pair, IsNear, IsNumber, AreIndexed, number_of}
 
 -- ---- the numbers of near pairs
 row_within : (s : ℕ) (a : ℤ) → pos 0 ≤ℤ a → a <ℤ pos s → unsigned_abs a < s

@@ -115,12 +115,7 @@ fn insert_far(waiting: &mut Vec<V2>, far: &mut IndexSet<V2>, v: V2) -> Result<()
 
 // Adds the near pair, which has this number, to those that wait, unless it is there.
 #[inline(always)]
-fn insert_near(
-    waiting: &mut Vec<V2>,
-    marks: &mut [u64],
-    k: usize,
-    v: V2,
-) -> Result<(), NoMemory>
+fn insert_near(waiting: &mut Vec<V2>, marks: &mut [u64], k: usize, v: V2) -> Result<(), NoMemory>
     requires { k < 64 * length marks.old }
     ensures indexed { (side : ℕ) (followed far : List V2) → IsNumber side v k
         → AreIndexed side (followed ++ waiting.old.items) marks.old far
