@@ -156,29 +156,26 @@ const TORN_BEFORE: [(&str, &str); 6] = [
 
 #[test]
 fn answers(rt: HostRuntime) -> Result<(), Fail> {
-    let alloc = rt.alloc();
-    assert_eq!(rt;
-        first_other_of(alloc, "ask", SPLIT, &ASKED, Status::Done)?,
-        None
-    );
-    assert_eq!(rt;
-        first_other_of(alloc, "ask", "", &OTHERS, Status::Done)?,
-        None
-    );
-    assert_eq!(rt; first_other_of(alloc, "ask", "", &BAD, Status::Bad)?, None);
+    for (head, rows, status) in [
+        (SPLIT, &ASKED[..], Status::Done),
+        ("", &OTHERS[..], Status::Done),
+        ("", &BAD[..], Status::Bad),
+    ] {
+        assert_eq!(rt;
+            first_other_of(rt.alloc(), "ask", head, rows, status)?,
+            None
+        );
+    }
     Ok(())
 }
 
 #[test]
 fn torn_questions(rt: HostRuntime) -> Result<(), Fail> {
-    let alloc = rt.alloc();
-    assert_eq!(rt;
-        first_other_of(alloc, "ask", OPEN, &TORN, Status::Refused)?,
-        None
-    );
-    assert_eq!(rt;
-        first_other_of(alloc, "ask", "", &TORN_BEFORE, Status::Refused)?,
-        None
-    );
+    for (head, rows) in [(OPEN, &TORN[..]), ("", &TORN_BEFORE[..])] {
+        assert_eq!(rt;
+            first_other_of(rt.alloc(), "ask", head, rows, Status::Refused)?,
+            None
+        );
+    }
     Ok(())
 }

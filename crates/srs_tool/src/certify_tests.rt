@@ -1,6 +1,7 @@
 // Runs of `certify` over memory.
 use crate::runs::{Row, first_other, first_other_of, play};
 use crate::status::Status;
+use std::alloc::Global;
 use std::test::Fail;
 
 const CORNER: &str = "polygon 3\nge 0 0 1\nge 1 0 8\nge 0 1 8\nend\n";
@@ -235,23 +236,41 @@ fn refused_polygons(rt: HostRuntime) -> Result<(), Fail> {
 // each kind; and the map.
 #[test]
 fn whole_polygon(rt: HostRuntime) -> Result<(), Fail> {
-    let alloc = rt.alloc();
-    let seen = play(alloc, "certify 12 4096 512", &[WHOLE.as_bytes()])?;
+    let seen = play(rt.alloc(), "certify 12 4096 512", &[WHOLE.as_bytes()])?;
     assert_eq!(rt; seen.status, Status::Done);
-    let text = seen.sink.bytes();
-    assert!(rt; text.starts_with(WHOLE_START.as_bytes()));
-    let checked = play(alloc, "check", &[text])?;
-    assert_eq!(rt; checked.status, Status::Done);
-    assert_eq!(rt; checked.sink.bytes(), VALID.as_bytes());
-    let map = play(alloc, "map 40 40", &[text])?;
-    assert_eq!(rt; map.status, Status::Done);
-    assert_eq!(rt; map.sink.bytes().len(), 40 * 41);
-    assert!(rt; is_rows_of_40(map.sink.bytes()));
+    assert_eq!(rt; first_slip(rt.alloc(), seen.sink.bytes())?, None);
     Ok(())
 }
 
-// Whether each 41st byte ends a line, and no other.
+// What isn't so of the certificate's text; none where all is.
+fn first_slip(alloc: Global, text: &[u8]) -> Result<Option<&'static str>, Fail> {
+    if !text.starts_with(WHOLE_START.as_bytes()) {
+        return Ok(Some("its first lines"));
+    }
+    if !is_valid(alloc, text)? {
+        return Ok(Some("its check"));
+    }
+    if !has_map(alloc, text)? {
+        return Ok(Some("its map"));
+    }
+    Ok(None)
+}
+
+fn is_valid(alloc: Global, text: &[u8]) -> Result<bool, Fail> {
+    let seen = play(alloc, "check", &[text])?;
+    Ok(seen.ended_with(Status::Done, VALID.as_bytes()))
+}
+
+fn has_map(alloc: Global, text: &[u8]) -> Result<bool, Fail> {
+    let seen = play(alloc, "map 40 40", &[text])?;
+    Ok(seen.status == Status::Done && is_rows_of_40(seen.sink.bytes()))
+}
+
+// Whether they are forty lines, and each 41st byte ends a line, and no other.
 fn is_rows_of_40(text: &[u8]) -> bool {
+    if text.len() != 40 * 41 {
+        return false;
+    }
     for (i, byte) in text.iter().enumerate() {
         if (i % 41 == 40) != (*byte == b'\n') {
             return false;

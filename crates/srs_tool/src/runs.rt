@@ -28,6 +28,13 @@ pub(crate) struct Seen {
     pub source: MemSource,
 }
 
+impl Seen {
+    /// Whether it ended with this status and wrote that.
+    pub(crate) fn ended_with(&self, status: Status, output: &[u8]) -> bool {
+        self.status == status && self.sink.bytes() == output
+    }
+}
+
 /// The run on these words and this input, which comes in pieces, in which one read and one write fail.
 pub(crate) fn failing(
     alloc: Global,
@@ -139,18 +146,25 @@ fn ends_of(
 ) -> Result<(MemSource, MemSink), Fail>
     requires { 1 ≤ most }
 {
+    let sink = MemSink::cut(alloc, ROOM, only(alloc, write)?, most)?;
+    let text = joined(alloc, input)?;
+    Ok((MemSource::cut(text, only(alloc, read)?, most), sink))
+}
+
+// The pieces one behind the other.
+fn joined(alloc: Global, pieces: &[&[u8]]) -> Result<Bytes, Fail> {
     let mut text = Bytes::new(alloc);
-    for piece in input {
+    for piece in pieces {
         text.extend(piece)?;
     }
-    let mut reads = Nums::new(alloc);
-    reads.push(read)?;
-    let mut writes = Nums::new(alloc);
-    writes.push(write)?;
-    Ok((
-        MemSource::cut(text, reads, most),
-        MemSink::cut(alloc, ROOM, writes, most)?,
-    ))
+    Ok(text)
+}
+
+// The list of this number alone.
+fn only(alloc: Global, number: i64) -> Result<Nums, Fail> {
+    let mut numbers = Nums::new(alloc);
+    numbers.push(number)?;
+    Ok(numbers)
 }
 
 fn words_of(alloc: Global, line: &str) -> Result<Vec<String>, AllocError> {
@@ -172,7 +186,7 @@ pub(crate) fn first_other(
 ) -> Result<Option<usize>, Fail> {
     for (i, (words, input, output)) in rows.iter().enumerate() {
         let seen = play(alloc, words, &[input.as_bytes()])?;
-        if seen.status != status || seen.sink.bytes() != output.as_bytes() {
+        if !seen.ended_with(status, output.as_bytes()) {
             return Ok(Some(i));
         }
     }
@@ -189,7 +203,7 @@ pub(crate) fn first_other_of(
 ) -> Result<Option<usize>, Fail> {
     for (i, (more, output)) in rows.iter().enumerate() {
         let seen = play(alloc, words, &[head.as_bytes(), more.as_bytes()])?;
-        if seen.status != status || seen.sink.bytes() != output.as_bytes() {
+        if !seen.ended_with(status, output.as_bytes()) {
             return Ok(Some(i));
         }
     }
@@ -207,7 +221,7 @@ pub(crate) fn first_other_top_of<R: Threads + Wait + Sync>(
 ) -> Result<Option<usize>, Fail> {
     for (i, (more, output)) in rows.iter().enumerate() {
         let seen = play_top(rt, alloc, words, &[head.as_bytes(), more.as_bytes()])?;
-        if seen.status != status || seen.sink.bytes() != output.as_bytes() {
+        if !seen.ended_with(status, output.as_bytes()) {
             return Ok(Some(i));
         }
     }

@@ -1,6 +1,6 @@
 // Runs of `live` with sessions over memory.
 use crate::gates::{InTurns, Meeting};
-use crate::live_tests::{SPLIT_CERTIFICATE, SPLIT_EVENTS, is_both};
+use crate::live_tests::{SPLIT_CERTIFICATE, is_of_one_worker};
 use crate::runs::{gated_top, play_top};
 use crate::status::Status;
 use std::alloc::Global;
@@ -16,38 +16,22 @@ const AT_THE_END: &str =
 const TOLD_AT_THE_END: &str =
     "session 1\nat 3\nversion 7\npoint 0 0 1 in\npoint -1 0 16 out 2 0 1\npoint 1 -1 16 in\npoint 0 -1 16 out 1 1\npoint 1 1 16 beyond\nregion in out\norbit loop 2 1\ncount 7\nend\n";
 
-// Whether the run with these sessions behind the polygon writes the events, what was told, and the
-// certificate.
+// Whether the run of one worker with these sessions behind the polygon writes the events, one of
+// what may be told, and the certificate.
 fn tells<R: Threads + Wait + Sync>(
     rt: &R,
     alloc: Global,
-    words: &str,
     sessions: &str,
-    events: &str,
-    told: &str,
+    told: &[&str],
 ) -> Result<bool, Fail> {
-    let seen = play_top(rt, alloc, words, &[POLYGON.as_bytes(), sessions.as_bytes()])?;
-    if seen.status != Status::Done {
-        return Ok(false);
-    }
-    match seen.sink.bytes().strip_prefix(events.as_bytes()) {
-        Some(rest) => Ok(is_both(rest, told, SPLIT_CERTIFICATE)),
-        None => Ok(false),
-    }
+    let input = [POLYGON.as_bytes(), sessions.as_bytes()];
+    let seen = play_top(rt, alloc, "live 2 64 16 1", &input)?;
+    Ok(seen.status == Status::Done && is_of_one_worker(seen.sink.bytes(), told))
 }
 
 #[test]
 fn live_split_triangle(rt: HostRuntime) -> Result<(), Fail> {
-    assert!(rt;
-        tells(
-            &rt,
-            rt.alloc(),
-            "live 2 64 16 1",
-            AT_THE_END,
-            SPLIT_EVENTS,
-            TOLD_AT_THE_END
-        )?
-    );
+    assert!(rt; tells(&rt, rt.alloc(), AT_THE_END, &[TOLD_AT_THE_END])?);
     Ok(())
 }
 
@@ -62,19 +46,7 @@ const TOLD_TWO: [&str; 2] = [
 
 #[test]
 fn segments_with_and_behind_the_rounds(rt: HostRuntime) -> Result<(), Fail> {
-    let seen = play_top(
-        &rt,
-        rt.alloc(),
-        "live 2 64 16 1",
-        &[POLYGON.as_bytes(), TWO.as_bytes()],
-    )?;
-    assert_eq!(rt; seen.status, Status::Done);
-    let Some(rest) = seen.sink.bytes().strip_prefix(SPLIT_EVENTS.as_bytes()) else {
-        return Err("the events are those of one worker")?;
-    };
-    let early = is_both(rest, TOLD_TWO[0], SPLIT_CERTIFICATE);
-    let late = is_both(rest, TOLD_TWO[1], SPLIT_CERTIFICATE);
-    assert!(rt; early || late);
+    assert!(rt; tells(&rt, rt.alloc(), TWO, &TOLD_TWO)?);
     Ok(())
 }
 
@@ -107,11 +79,6 @@ fn in_turns(rt: HostRuntime) -> Result<(), Fail> {
     let seen = gated_top(&rt, rt.alloc(), "live 2 64 16 1", &input, &gate)?;
     assert!(rt; gate.held());
     assert_eq!(rt; seen.status, Status::Done);
-    let Some(rest) = seen.sink.bytes().strip_prefix(SPLIT_EVENTS.as_bytes()) else {
-        return Err("the events are those of one worker")?;
-    };
-    let two = is_both(rest, TOLD_IN_TURNS[0], SPLIT_CERTIFICATE);
-    let three = is_both(rest, TOLD_IN_TURNS[1], SPLIT_CERTIFICATE);
-    assert!(rt; two || three);
+    assert!(rt; is_of_one_worker(seen.sink.bytes(), &TOLD_IN_TURNS));
     Ok(())
 }

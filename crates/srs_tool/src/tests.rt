@@ -75,12 +75,13 @@ fn unknown_words(rt: HostRuntime) -> Result<(), Fail> {
 
 #[test]
 fn failing_ends(rt: HostRuntime) -> Result<(), Fail> {
-    let first = failing(rt.alloc(), "certify 0 1 16", &[CYCLE_ONE], 0, NEVER)?;
-    assert_eq!(rt; first.status, Status::ReadFault);
-    assert!(rt; first.sink.bytes().is_empty());
-    let second = failing(rt.alloc(), "certify 0 1 16", &[CYCLE_ONE], NEVER, 0)?;
-    assert_eq!(rt; second.status, Status::WriteFault);
-    assert!(rt; second.sink.bytes().is_empty());
+    for (read, write, status) in [
+        (0, NEVER, Status::ReadFault),
+        (NEVER, 0, Status::WriteFault),
+    ] {
+        let seen = failing(rt.alloc(), "certify 0 1 16", &[CYCLE_ONE], read, write)?;
+        assert!(rt; seen.ended_with(status, b""));
+    }
     Ok(())
 }
 
@@ -127,18 +128,20 @@ fn first_write_untold(
     Ok(None)
 }
 
+// Whether the text is written where no read and no write fails.
+fn is_whole(alloc: Global, words: &str, input: &[u8], text: &[u8]) -> Result<bool, Fail> {
+    let seen = failing_by_bytes(alloc, words, input, NEVER, NEVER)?;
+    Ok(seen.ended_with(Status::Done, text))
+}
+
 #[test]
 fn each_read_and_write_fails(rt: HostRuntime) -> Result<(), Fail> {
     let alloc = rt.alloc();
     for (words, input, text) in &BY_BYTES {
-        assert_eq!(rt; first_read_untold(alloc, words, input.as_bytes())?, None);
-        assert_eq!(rt;
-            first_write_untold(alloc, words, input.as_bytes(), text.as_bytes())?,
-            None
-        );
-        let whole = failing_by_bytes(alloc, words, input.as_bytes(), NEVER, NEVER)?;
-        assert_eq!(rt; whole.status, Status::Done);
-        assert_eq!(rt; whole.sink.bytes(), text.as_bytes());
+        let (input, text) = (input.as_bytes(), text.as_bytes());
+        assert_eq!(rt; first_read_untold(alloc, words, input)?, None);
+        assert_eq!(rt; first_write_untold(alloc, words, input, text)?, None);
+        assert!(rt; is_whole(alloc, words, input, text)?);
     }
     Ok(())
 }
@@ -150,8 +153,7 @@ fn long_source(rt: HostRuntime) -> Result<(), Fail> {
     let mut input = [PIECE.as_slice(); 257];
     input[256] = b"a";
     let seen = play(rt.alloc(), "certify 0 1 16", &input)?;
-    assert_eq!(rt; seen.status, Status::TooLong);
-    assert_eq!(rt; seen.sink.bytes(), b"refused long\n".as_slice());
+    assert!(rt; seen.ended_with(Status::TooLong, b"refused long\n"));
     assert!(rt; seen.source.rest().is_empty());
     Ok(())
 }
