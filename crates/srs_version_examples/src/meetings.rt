@@ -92,18 +92,19 @@ fn first_other(alloc: Global, version: &Version, rows: &[Row]) -> Result<Option<
 fn polygons_that_meet(rt: HostRuntime) -> Result<(), Fail> {
     let alloc = rt.alloc();
     let version = version_of(alloc, LEFT_SEGMENT)?;
-    assert_eq!(rt; first_other(alloc, &version, &WHOLE)?, None);
-    assert_eq!(rt; first_other(alloc, &version, &TOUCHING)?, None);
+    for rows in [&WHOLE[..], &TOUCHING[..]] {
+        assert_eq!(rt; first_other(alloc, &version, rows)?, None);
+    }
     Ok(())
 }
 
 #[test]
 fn polygons_at_an_edge(rt: HostRuntime) -> Result<(), Fail> {
     let alloc = rt.alloc();
-    let closed = version_of(alloc, SPLIT)?;
-    assert_eq!(rt; first_other(alloc, &closed, &CLOSED_EDGE)?, None);
-    let open = version_of(alloc, OPEN_EDGE)?;
-    assert_eq!(rt; first_other(alloc, &open, &OPENED_EDGE)?, None);
+    for (text, rows) in [(SPLIT, &CLOSED_EDGE), (OPEN_EDGE, &OPENED_EDGE)] {
+        let version = version_of(alloc, text)?;
+        assert_eq!(rt; first_other(alloc, &version, rows)?, None);
+    }
     Ok(())
 }
 

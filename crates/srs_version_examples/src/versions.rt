@@ -111,17 +111,41 @@ fn has(
     Ok(all && version.count() == count && events == count)
 }
 
+// Two paths and the cuts that lead there, in the order in which their outcomes come.
+const ENTRIES: [(&str, &[Cut]); 2] = [("", &[]), ("g", &[UP])];
+
+// The version without an outcome, those with one and with two, and a copy of the last.
+fn versions(alloc: Global) -> Result<Vec<Version>, Fail> {
+    let mut versions = Vec::new(alloc);
+    let mut newest = start(alloc)?;
+    for (sides, cuts) in ENTRIES {
+        let next = entered(alloc, &newest, sides, cuts, None)?;
+        versions.push(newest)?;
+        newest = next;
+    }
+    let shared = newest.share(alloc)?;
+    versions.push(newest)?;
+    versions.push(shared)?;
+    Ok(versions)
+}
+
+// How many outcomes they have, and what stands at some paths.
+const GROWN: [(u64, Outcomes); 4] = [(0, NONE), (1, ONE), (2, TWO), (2, TWO)];
+
+// Whether the versions have these outcomes.
+fn have_grown(alloc: Global, versions: &[Version]) -> Result<bool, Fail> {
+    for (i, (count, rows)) in GROWN.iter().enumerate() {
+        if i >= versions.len() || !has(alloc, &versions[i], *count, rows)? {
+            return Ok(false);
+        }
+    }
+    Ok(true)
+}
+
 #[test]
 fn entries(rt: HostRuntime) -> Result<(), Fail> {
-    let alloc = rt.alloc();
-    let first = start(alloc)?;
-    let second = entered(alloc, &first, "", &[], None)?;
-    let third = entered(alloc, &second, "g", &[UP], None)?;
-    let shared = third.share(alloc)?;
-    assert!(rt; has(alloc, &first, 0, NONE)?);
-    assert!(rt; has(alloc, &second, 1, ONE)?);
-    assert!(rt; has(alloc, &third, 2, TWO)?);
-    assert!(rt; has(alloc, &shared, 2, TWO)?);
+    let versions = versions(rt.alloc())?;
+    assert!(rt; have_grown(rt.alloc(), &versions)?);
     Ok(())
 }
 
