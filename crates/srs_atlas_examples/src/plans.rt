@@ -42,6 +42,17 @@ fn counts_at<R: Wait>(rt: &R, atlas: &Atlas, pass: &mut AtlasPass, round: u32) -
     (counts.cells, counts.row)
 }
 
+// Whether there are so many at rounds 0, 1 and 2, once the root is cut.
+fn are_counted<R: Wait>(rt: &R, atlas: &Atlas, pass: &mut AtlasPass) -> bool
+    requires { IsPassOf atlas.now pass.old }
+    ensures { IsPassOf atlas.now pass.new }
+{
+    let first = counts_at(rt, atlas, pass, 0) == (1, 1);
+    let second = counts_at(rt, atlas, pass, 1) == (3, 2);
+    let third = counts_at(rt, atlas, pass, 2) == (3, 0);
+    first && second && third
+}
+
 #[test]
 fn root_of_a_plan(rt: HostRuntime) -> Result<(), Fail> {
     let alloc = rt.alloc();
@@ -49,15 +60,12 @@ fn root_of_a_plan(rt: HostRuntime) -> Result<(), Fail> {
     let cell = root.copy(alloc)?;
     let limits = Limits::new(2, 64, 16).ok_or("they are limits")?;
     let (atlas, mut pass) = Atlas::start_plan(&rt, alloc, cell, limits)?;
-    assert_eq!(rt; (atlas.w(), atlas.plan()), (16, Some(limits)));
-    assert_eq!(rt;
-        committed_root(&rt, alloc, &atlas, &mut pass, &limits, &root),
-        Told::Done(1)
-    );
-    assert_eq!(rt; counts_at(&rt, &atlas, &mut pass, 0), (1, 1));
-    assert_eq!(rt; counts_at(&rt, &atlas, &mut pass, 1), (3, 2));
-    assert_eq!(rt; counts_at(&rt, &atlas, &mut pass, 2), (3, 0));
+    let terms = (atlas.w(), atlas.plan()) == (16, Some(limits));
+    let told = committed_root(&rt, alloc, &atlas, &mut pass, &limits, &root);
+    let counted = are_counted(&rt, &atlas, &mut pass);
     let (version, events) = atlas.finish(&rt, pass);
+    assert!(rt; terms && counted);
+    assert_eq!(rt; told, Told::Done(1));
     assert_eq!(rt; (version.count(), events.len()), (1, 1));
     Ok(())
 }
