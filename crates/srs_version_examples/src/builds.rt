@@ -50,13 +50,22 @@ const COUNTS: Counts = Counts {
     left: 0,
 };
 
+// Whether what is built has these counts, and seven outcomes, these among them.
+fn builds(
+    alloc: Global,
+    cert: &Cert,
+    wanted: Counts,
+    rows: &[(&str, Option<Plain>)],
+) -> Result<bool, Fail> {
+    let (version, counts) = built(alloc, cert)?;
+    let all = first_other_outcome(&version, rows)?.is_none();
+    Ok(all && counts == wanted && version.count() == 7)
+}
+
 #[test]
 fn a_version_of_a_certificate(rt: HostRuntime) -> Result<(), Fail> {
-    let alloc = rt.alloc();
-    let (version, counts) = built(alloc, &certificate(alloc, SPLIT)?)?;
-    assert_eq!(rt; counts, COUNTS);
-    assert_eq!(rt; version.count(), 7);
-    assert_eq!(rt; first_other_outcome(&version, &NODES)?, None);
+    let cert = certificate(rt.alloc(), SPLIT)?;
+    assert!(rt; builds(rt.alloc(), &cert, COUNTS, &NODES)?);
     Ok(())
 }
 
@@ -66,17 +75,16 @@ const LEFT_COUNTS: Counts = Counts {
     ..COUNTS
 };
 
+const WRITTEN: [(&str, Option<Plain>); 1] = [("gl", Some(Plain::Left(Cause::Depth(Why::Cycle))))];
+
+const TAKEN: [(&str, Option<Plain>); 1] = [("gl", Some(Plain::Left(Cause::Memory)))];
+
 // The cause isn't taken over.
 #[test]
 fn a_left_cell_is_built(rt: HostRuntime) -> Result<(), Fail> {
-    let alloc = rt.alloc();
-    let cert = certificate(alloc, LEFT_SEGMENT)?;
-    let (version, counts) = built(alloc, &cert)?;
-    assert_eq!(rt; counts, LEFT_COUNTS);
-    let written = [("gl", Some(Plain::Left(Cause::Depth(Why::Cycle))))];
-    assert_eq!(rt; first_other_node(&cert, &written)?, None);
-    let taken = [("gl", Some(Plain::Left(Cause::Memory)))];
-    assert_eq!(rt; first_other_outcome(&version, &taken)?, None);
+    let cert = certificate(rt.alloc(), LEFT_SEGMENT)?;
+    assert_eq!(rt; first_other_node(&cert, &WRITTEN)?, None);
+    assert!(rt; builds(rt.alloc(), &cert, LEFT_COUNTS, &TAKEN)?);
     Ok(())
 }
 
