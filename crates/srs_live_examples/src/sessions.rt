@@ -78,15 +78,20 @@ fn ask_orbit(queries: &mut Queries) -> Result<(), Fail> {
 }
 
 // Each kind of question, and points in each cell of SPLIT that is a leaf once all were refined.
+fn ask_each(alloc: Global, queries: &mut Queries) -> Result<(), Fail> {
+    ask_point(queries, 1, -1, 16)?;
+    ask(queries, Query::Count)?;
+    ask_point(queries, -1, -1, 32)?;
+    ask_point(queries, 1, 0, 1)?;
+    ask(queries, Query::Fresh)?;
+    ask(queries, Query::Polygon(cell_of(alloc, SPLIT)?))?;
+    ask_orbit(queries)
+}
+
+// The list of them.
 fn questions(alloc: Global) -> Result<Queries, Fail> {
     let mut queries = Queries::new(alloc);
-    ask_point(&mut queries, 1, -1, 16)?;
-    ask(&mut queries, Query::Count)?;
-    ask_point(&mut queries, -1, -1, 32)?;
-    ask_point(&mut queries, 1, 0, 1)?;
-    ask(&mut queries, Query::Fresh)?;
-    ask(&mut queries, Query::Polygon(cell_of(alloc, SPLIT)?))?;
-    ask_orbit(&mut queries)?;
+    ask_each(alloc, &mut queries)?;
     Ok(queries)
 }
 
@@ -191,14 +196,28 @@ fn settle_all<R: Wait>(
     Ok(())
 }
 
+// Settles the cells of three rounds.
+fn settle_rounds<R: Wait>(
+    rt: &R,
+    alloc: Global,
+    atlas: &Atlas,
+    pass: &mut AtlasPass,
+) -> Result<(), Fail>
+    requires own { IsPassOf atlas.now pass.old }
+    requires free { atlas.now.fixed.plan ≡ None }
+    ensures { IsPassOf atlas.now pass.new }
+{
+    settle_all(rt, alloc, atlas, pass)?;
+    settle_all(rt, alloc, atlas, pass)?;
+    settle_all(rt, alloc, atlas, pass)
+}
+
 #[test]
 fn each_question_is_answered(rt: HostRuntime) -> Result<(), Fail> {
     let alloc = rt.alloc();
     let (atlas, mut pass) = Atlas::start(&rt, alloc, cell_of(alloc, SPLIT)?, 16)?;
     assert!(rt; is_told(&rt, alloc, &atlas, &mut pass, 0, &FIRST)?);
-    settle_all(&rt, alloc, &atlas, &mut pass)?;
-    settle_all(&rt, alloc, &atlas, &mut pass)?;
-    settle_all(&rt, alloc, &atlas, &mut pass)?;
+    settle_rounds(&rt, alloc, &atlas, &mut pass)?;
     assert!(rt; is_told(&rt, alloc, &atlas, &mut pass, 3, &LAST)?);
     Ok(())
 }
@@ -208,9 +227,7 @@ fn pass_that_saw_less_is_told_the_newest(rt: HostRuntime) -> Result<(), Fail> {
     let alloc = rt.alloc();
     let (atlas, mut pass) = Atlas::start(&rt, alloc, cell_of(alloc, SPLIT)?, 16)?;
     let mut other = atlas.split_pass(&mut pass);
-    settle_all(&rt, alloc, &atlas, &mut pass)?;
-    settle_all(&rt, alloc, &atlas, &mut pass)?;
-    settle_all(&rt, alloc, &atlas, &mut pass)?;
+    settle_rounds(&rt, alloc, &atlas, &mut pass)?;
     assert!(rt; is_told(&rt, alloc, &atlas, &mut other, 3, &LAST)?);
     Ok(())
 }
