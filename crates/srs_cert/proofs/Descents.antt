@@ -15,7 +15,8 @@ use Rattle.srs_tree.specs.WholeTrees.{ListsTrees, ListsWholeTree}
 use Rattle.srs_tree.proofs.Trees.{IsClosed, none_below}
 use Rattle.srs_cert.specs.Certificates.{StandsAt}
 use Rattle.srs_cert.proofs.LtParts.{head_at}
-use Rattle.srs_cert.proofs.Preordered.{AreOpenAfter, none_or, walked_all, walked_takes, walked_outcome}
+use Rattle.srs_cert.specs.Preorders.{AreOpenAfter}
+use Rattle.srs_cert.proofs.Preordered.{none_or, walked_all, walked_takes, walked_outcome}
 
 module _ (H : History) (tree : ListsWholeTree H) where
   -- each path that has an event is a cell

@@ -17,15 +17,9 @@ use Rattle.srs_path.specs.Views.{Entry}
 use Rattle.srs_tree.specs.Tree.{History, path_eq, outcome_at, IsCellOf}
 use Rattle.srs_tree.specs.Rounds.{parts_by}
 use Rattle.srs_tree.specs.WholeTrees.{ListsTrees, ListsWholeTree}
+use Rattle.srs_cert.specs.Preorders.{AreOpenAfter, IsWalked}
 use Rattle.srs_tree.proofs.HistoryLemmas.{path_eq_same, or_else, outcome_at-append, IsCellOf_stays}
 use Rattle.srs_tree.proofs.CellsLemmas.{outcome_there, outcome_cases, in_parts, part_new}
-
--- the paths that wait after G: cells without an event, and none twice; and each event of G is of a cell
-pub record AreOpenAfter (G : History) (waiting : List (List Side)) : Type 0 where
-  pub closed : (p : List Side) (o : Outcome) → outcome_at G p ≡ Some o → IsCellOf (outcome_at G) p
-  pub cells : (p : List Side) → Contains waiting p → IsCellOf (outcome_at G) p
-  pub fresh : (p : List Side) → Contains waiting p → outcome_at G p ≡ None
-  pub once : AllPairs ◌≢◌ waiting
 
 pub here_first : (p : List Side) (ps : List (List Side)) → Contains (p ∷ ps) p
 here_first p ps = (0, omega arith, refl)
@@ -117,11 +111,6 @@ module _ (G : History) (e : Entry) (rest : List (List Side)) (old : AreOpenAfter
 
   pub open_next : AreOpenAfter (G ++ e ∷ []) (parts_by e.path e.outcome ++ rest)
   open_next = record { closed = closed_next; cells = cells_next; fresh = fresh_next; once = once_with e.outcome }
-
--- the events from the place i on are those of the trees below the paths that wait
-pub record IsWalked (H : History) (i : ℕ) (waiting : List (List Side)) : Type 0 where
-  pub lists : ListsTrees waiting (drop i H)
-  pub opened : AreOpenAfter (take i H) waiting
 
 pub walked_first : (H : History) → ListsWholeTree H → IsWalked H 0 ([] ∷ [])
 walked_first H tree = record { lists = tree; opened = open_first }

@@ -3,3 +3,4 @@ pub mod Certificates
 pub mod Heights
 pub mod Sayings
 pub mod Lives
+pub mod Preorders

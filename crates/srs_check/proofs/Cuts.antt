@@ -20,7 +20,8 @@ use Rattle.srs_tree.specs.WholeTrees.{ListsWholeTree}
 use Rattle.srs_tree.proofs.HistoryLemmas.{IsLegal-append, IsLegal-empty}
 use Rattle.srs_tree.proofs.TreeLemmas.{region_at_stays}
 use Rattle.srs_tree.proofs.PartitionAll.{IsPartition-legal}
-use Rattle.srs_cert.proofs.Preordered.{AreOpenAfter, walked_all, walked_takes}
+use Rattle.srs_cert.specs.Preorders.{AreOpenAfter}
+use Rattle.srs_cert.proofs.Preordered.{walked_all, walked_takes}
 
 -- an outcome with nothing but its cut
 abbrev pub cut_of : Outcome → Outcome

@@ -8,7 +8,7 @@ use Rattle.srs_path.specs.Views.{Budget, Entry}
 use Rattle.srs_tree.specs.Tree.{History}
 use Rattle.srs_tree.specs.Growth.{IsProvedOf}
 use Rattle.srs_cert.specs.Certificates.{CertView, IsCertificate, line_of_node}
-use Rattle.srs_cert.proofs.Preordered.{IsWalked}
+use Rattle.srs_cert.specs.Preorders.{IsWalked}
 use Rattle.srs_check.specs.declared.faults.Fault.{Fault}
 use Rattle.srs_check.specs.declared.walk.Walk.{Walk}
 use Rattle.srs_check.specs.Budgets.{SpendsCells}
