@@ -1,13 +1,12 @@
 -- The list of cells_of of a legal history, and counts of cells_of.
-use Rattle.std.proofs.Common.{◌≡◌, ◌≢◌, ◌⊎◌, inl, inr, ℕ, zero, suc, ◌+◌, ◌<◌, true, false, cond, List, [], ◌∷◌, ◌++◌, length, length-append, get_or, refl, sym, ap, subst, ◌∙◌, arith, append_assoc, append-nil}
-use Rattle.std.specs.Prelude.{◌==◌, nat_le, count_by, Contains}
+use Rattle.std.proofs.Common.{◌≡◌, ◌≢◌, ◌⊎◌, inl, inr, ℕ, zero, suc, ◌<◌, true, false, cond, List, [], ◌∷◌, ◌++◌, length, length-append, get_or, refl, sym, ap, subst, ◌∙◌, arith, append_assoc, append-nil}
+use Rattle.std.specs.Prelude.{Contains}
 use Rattle.std.specs.List.{flat_map, AllPairs}
 use Rattle.std.proofs.lemmas.Option.{none-some, same_Some}
 use Rattle.std.proofs.lemmas.List.{append_cancel_left}
 use Rattle.std.proofs.lemmas.List.Concat.{flat_map-append}
 use Rattle.std.proofs.lemmas.List.Elements.{Contains-get_or, Contains-append_left, Contains-append_right, Contains-append_cases, Contains-push_cases}
 use Rattle.std.proofs.lemmas.List.Quantifiers.{all_pairs_push}
-use Rattle.std.proofs.lemmas.List.Sums.{sum_by-append}
 use Rattle.std.specs.declared.option.Option.TheVariants.{Some, None}
 use Rattle.srs_num.specs.Points.{LinearForm}
 use Rattle.srs_plane.specs.Regions.{Area}
@@ -18,7 +17,7 @@ use Rattle.srs_path.specs.declared.outcomes.Outcome.TheVariants.{Inside, Outside
 use Rattle.srs_path.specs.Views.{Entry}
 use Rattle.srs_tree.specs.Tree.{History, path_eq, outcome_at, IsCellOf}
 use Rattle.srs_tree.specs.Legality.{MayFollow, IsLegal}
-use Rattle.srs_tree.specs.Rounds.{parts_by, cells_of, upto, row_of}
+use Rattle.srs_tree.specs.Rounds.{parts_by, cells_of}
 use Rattle.srs_tree.proofs.HistoryLemmas.{same_path, path_eq_same, or_else, outcome_at-append, IsCellOf_stays, IsLegal-append, IsLegal-empty}
 use Rattle.srs_tree.proofs.TreeCut.{same_parent}
 use Rattle.srs_tree.proofs.Grow.{grow}

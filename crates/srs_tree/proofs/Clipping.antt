@@ -1,11 +1,11 @@
 -- Cutting a cell by the halves of a region in turn.
-use Rattle.std.proofs.Common.{◌≡◌, ◌⊎◌, inl, inr, ℕ, ◌+◌, [], ◌∷◌, ◌++◌, Bool, true, false, length, take, drop, slice_get, refl, sym, ap, subst, ◌∙◌, arith, take-append-drop, pos, ◌≤ℤ◌, ◌<ℤ◌, Some, None}
+use Rattle.std.proofs.Common.{◌≡◌, ◌⊎◌, inl, inr, ℕ, ◌+◌, [], ◌∷◌, ◌++◌, Bool, true, false, take, drop, slice_get, refl, sym, ap, subst, ◌∙◌, arith, take-append-drop, pos, ◌≤ℤ◌, ◌<ℤ◌, Some, None}
 use Rattle.std.specs.Prelude.{IsTrue, ◌↔◌, ◌||◌, MatchOption}
 use Rattle.std.specs.List.{AllByRecursion}
 use Rattle.std.specs.declared.option.Option.{Option}
 use Rattle.std.proofs.lemmas.Bool.{true≢false, false≢true}
 use Rattle.std.proofs.lemmas.Int.{ints}
-use Rattle.std.proofs.lemmas.List.{take_more, take_all}
+use Rattle.std.proofs.lemmas.List.{take_more}
 use Rattle.std.proofs.lemmas.Option.{get_or_from_slice_get, slice_get_within}
 use Rattle.srs_num.specs.Points.{Point, LinearForm, value, opposite}
 use Rattle.srs_num.proofs.Identities.{value-opposite}
@@ -14,7 +14,6 @@ use Rattle.srs_plane.specs.declared.halves.Kind.TheVariants.{Ge, Gt}
 use Rattle.srs_plane.specs.Regions.{Area, IsIn, IsInHalf, HasPoint, ge_side, lt_side}
 use Rattle.srs_plane.proofs.Members.{IsIn-push, IsIn-front, IsIn-last}
 use Rattle.srs_cell.specs.Parts.{AreBoth}
-use Rattle.srs_tree.specs.declared.meetings.Clip.{Clip}
 use Rattle.srs_tree.specs.Clips.{IsClip}
 use Rattle.srs_tree.proofs.Ways.{all_left}
 

@@ -7,6 +7,7 @@ use Rattle.srs_cell.specs.contracts.cells.Cell as cell
 use Rattle.srs_path.specs.contracts.outcomes.Outcome as outcome
 use Rattle.srs_path.specs.contracts.paths.Path as path
 use Rattle.srs_blocks.proofs.Crossing.{list_send, list_sync}
+use Rattle.srs_tree.specs.contracts.nodes.Bare as bare
 use Rattle.srs_tree.specs.contracts.nodes.Node as node
 use Rattle.srs_tree.specs.contracts.versions.Version as version
 use Rattle.srs_tree.specs.contracts.in_place.GrowingTree as growing
@@ -35,11 +36,17 @@ path_send = search (sendable, crosses) depth 20
 pub path_sync : IsSync path.the_row
 path_sync = search (sendable, crosses) depth 20
 
+pub bare_send : IsSend bare.the_row
+bare_send = search (sendable, crosses, region_send) depth 20
+
+pub bare_sync : IsSync bare.the_row
+bare_sync = search (sendable, crosses, region_sync) depth 20
+
 pub node_send : IsSend node.the_row
-node_send = search (sendable, crosses, cell_send, cell_sync, outcome_send, outcome_sync, path_send, path_sync) depth 20
+node_send = search (sendable, crosses, cell_send, cell_sync, bare_send, outcome_send, outcome_sync, path_send, path_sync) depth 30
 
 pub node_sync : IsSync node.the_row
-node_sync = search (sendable, crosses, cell_send, cell_sync, outcome_send, outcome_sync, path_send, path_sync) depth 20
+node_sync = search (sendable, crosses, cell_send, cell_sync, bare_sync, outcome_send, outcome_sync, path_send, path_sync) depth 30
 
 pub version_send : IsSend version.the_row
 version_send = search (sendable, crosses, node_send, node_sync, list_send) depth 20

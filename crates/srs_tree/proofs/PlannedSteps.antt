@@ -17,7 +17,7 @@ use Rattle.srs_tree.specs.Legality.{MayFollow, IsLegal}
 use Rattle.srs_tree.specs.Rounds.{last_in, IsByPlan, IsPlan, IsWhole, IsInRounds, MayComeNext, IsPlanned}
 use Rattle.srs_tree.proofs.HistoryLemmas.{outcome_at_stays, IsCellOf_stays, slice_get_snoc, IsLegal-append, IsLegal-empty}
 use Rattle.srs_tree.proofs.TreeLemmas.{region_at_stays}
-use Rattle.srs_tree.proofs.Grow.{Each, grow, Each-first}
+use Rattle.srs_tree.proofs.Grow.{Each, grow}
 use Rattle.srs_tree.proofs.CellsLemmas.{outcome_there}
 use Rattle.srs_tree.proofs.PartitionAll.{IsLegal-first}
 use Rattle.srs_tree.proofs.PlannedWhole.{Closed, upto_stays, row_stays, last_same, some_is}

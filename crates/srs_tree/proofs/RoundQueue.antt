@@ -18,9 +18,9 @@ use Rattle.srs_tree.specs.Rounds.{parts_by, IsPlanned, MayComeNext}
 use Rattle.srs_tree.proofs.HistoryLemmas.{IsLegal-append, IsLegal-empty}
 use Rattle.srs_tree.proofs.Grow.{grow}
 use Rattle.srs_tree.proofs.CellsLemmas.{in_parts}
-use Rattle.srs_tree.proofs.PlannedWhole.{Closed, some_is}
+use Rattle.srs_tree.proofs.PlannedWhole.{some_is}
 use Rattle.srs_tree.specs.Queue.{queue_of}
-use Rattle.srs_tree.proofs.QueueLemmas.{queue_is, queue-append, from_filter, closed_by_queue}
+use Rattle.srs_tree.proofs.QueueLemmas.{queue_is, queue-append, from_filter}
 
 -- two lists in order, the second of them no shorter than the first, are one list in order
 order_join : (xs ys : List (List Side)) (m : ℕ) → IsNonDecreasingBy (λ p. length p) xs → IsNonDecreasingBy (λ p. length p) ys → ((p : List Side) → Contains xs p → length p ≤ m) → ((p : List Side) → Contains ys p → m ≤ length p) → IsNonDecreasingBy (λ p. length p) (xs ++ ys)

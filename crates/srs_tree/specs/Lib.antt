@@ -5,6 +5,7 @@ pub mod Snapshots
 pub mod Growth
 pub mod Queue
 pub mod Nodes
+pub mod KeptCells
 pub mod Preorder
 pub mod WholeTrees
 pub mod Answers

@@ -21,7 +21,7 @@ pub(crate) fn leaf_with<'a, L: Ledger>(
     ensures on_path { IfSome result
         (λ y. steps.new ≤ steps.old + length (root_of nodes.now) + length y.now.path) }
 {
-    if nodes.get(0).cell().region().holds(r, steps) {
+    if nodes.get(0).region().holds(r, steps) {
         Some(descend(nodes, 0, r, steps))
     } else {
         None

@@ -1,6 +1,6 @@
 // How a tree takes an outcome.
 ghost use Rattle.std.specs.Prelude.{◌≡◌, ◌+◌, ◌^◌, ◌<◌, ◌≤◌, [], ◌∷◌, ◌++◌, length, map, slice_get};
-ghost use Rattle.std.specs.Prelude.{Some, None, IfOk, IfErr, OnOk, OnErr};
+ghost use Rattle.std.specs.Prelude.{Some, None, All, IfOk, IfErr, OnOk, OnErr};
 ghost use Rattle.std.specs.Arc.{arc_value};
 ghost use Rattle.srs_plane.specs.Regions.{Divides};
 ghost use Rattle.srs_path.specs.declared.paths.Side.TheVariants.{Ge as OnGe, Lt as OnLt};
@@ -37,7 +37,7 @@ pub(crate) fn place_for(nodes: &Nodes, path: &Path, f: Finding) -> Result<(usize
     if let Some(outcome) = node.outcome() {
         return Err(done(outcome, f));
     }
-    if !node.cell().region().same(f.region()) {
+    if !node.region().same(f.region()) {
         return Err(other_cell(node.cell(), f));
     }
     Ok((i, f))
@@ -197,7 +197,7 @@ fn settle(
     ensures err { OnErr result (nodes.new ≡ nodes.old) }
 {
     let place = nodes.len();
-    let node = nodes.get(i).settled(outcome, place)?;
+    let node = nodes.get(i).settled(alloc, outcome, place)?;
     append(nodes, alloc, parts)?;
     match nodes.set(alloc, i, node) {
         Ok(()) => Ok(()),
@@ -241,7 +241,8 @@ fn open_parts(
     parts: &Option<(Node, Node)>,
     place: usize,
 ) -> Result<Option<(Pending, Pending)>, NoMemory>
-    requires { place ≤ 2 ^ 48 }
+    requires place { place ≤ 2 ^ 48 }
+    requires open { All (λ x. x.outcome ≡ None) (spots_from parts.now) }
     ensures { IfOk result (λ cells. cells_from cells ≡ map waiting_of (spots_from parts.now)) }
 {
     match parts {
@@ -252,6 +253,7 @@ fn open_parts(
 
 // The two parts of the cell, which the form divides.
 fn halves(alloc: Global, node: &Node, h: &Form) -> Result<(Node, Node), NoMemory>
+    requires fresh { node.now.outcome ≡ None }
     requires divides { Divides node.now.region h.now }
     requires room { length node.now.path < 48 }
     requires few { length node.now.region < 80 }

@@ -60,7 +60,7 @@ pub(crate) fn met_by(alloc: Global, nodes: &Nodes, q: &Cell) -> Result<Met, NoMe
     requires few { length q.now ≤ 16 }
     ensures { IfOk result (λ met. IsMet (root_of nodes.now) (spots_tree nodes.now) q.now met) }
 {
-    let clip = within(alloc, q, nodes.get(0).cell().region())?;
+    let clip = within(alloc, q, nodes.get(0).region())?;
     match &clip.inside {
         Some(cell) => Ok(met_below(alloc, nodes, 0, cell)?.with_beyond(clip.beyond)),
         None => Ok(Met::none().with_beyond(clip.beyond)),

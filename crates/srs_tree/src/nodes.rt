@@ -1,5 +1,5 @@
 // The cells of a tree in the order in which they were made.
-ghost use Rattle.std.specs.Prelude.{◌≡◌, length, ◌++◌, ◌+◌, ◌<◌, ◌^◌, Some, None, IfOk, IfErr};
+ghost use Rattle.std.specs.Prelude.{◌≡◌, ◌⊎◌, [], length, ◌++◌, ◌+◌, ◌<◌, ◌^◌, Some, None, IfOk, IfErr};
 ghost use Rattle.std.specs.Prelude.{IfSome, IfNone, MatchOption, OnOk, OnErr};
 ghost use Rattle.srs_num.specs.Points.{LinearForm};
 ghost use Rattle.srs_path.specs.declared.outcomes.Outcome.TheVariants.{Cut as IsCut};
@@ -14,17 +14,63 @@ use srs_blocks::{BlockList, Share};
 use srs_cell::Cell;
 use srs_num::{Form, NoMemory, Pt, Steps};
 use srs_path::{Outcome, Path, Side};
+use srs_plane::Region;
 use std::alloc::Global;
 use std::marker::Model;
 use std::sync::Arc;
 use std::sync::ledger::Ledger;
+
+// The region of a cell whose corners were let go.
+#[derive(Drop)]
+pub(crate) struct Bare {
+    region: Region,
+    // For copies.
+    alloc: Global,
+}
+
+impl Model for Bare {
+    ghost use Rattle.std.specs.Prelude.{List};
+    ghost use Rattle.srs_plane.specs.declared.halves.Half.{Half};
+
+    ghost Value = { List Half };
+
+    ghost view = { λ b. b.region };
+}
+
+impl Bare {
+    // That of the region.
+    fn of(alloc: Global, region: &Region) -> Result<Bare, NoMemory>
+        ensures { IfOk result (λ bare. bare ≡ region.now) }
+    {
+        Ok(Bare {
+            region: region.copy(alloc)?,
+            alloc,
+        })
+    }
+
+    // An equal one.
+    fn copy(&self) -> Result<Bare, NoMemory>
+        ensures { IfOk result (λ bare. bare ≡ self.now) }
+    {
+        Bare::of(self.alloc, &self.region)
+    }
+
+    fn region(&self) -> &Region
+        ensures { result.now ≡ self.now }
+    {
+        &self.region
+    }
+}
 
 // A cell of the tree. Where its outcome is a cut, the Ge part stands at the place `parts`, and the
 // Lt part after it.
 #[derive(Drop)]
 pub(crate) struct Node {
     path: Path,
-    cell: Arc<Cell>,
+    // The cell, while it has no outcome, and of the root, which can be asked for later too. Of another
+    // one the region alone is kept, so that the corners are let go.
+    cell: Option<Arc<Cell>>,
+    bare: Option<Bare>,
     outcome: Option<Arc<Outcome>>,
     parts: usize,
 }
@@ -32,11 +78,17 @@ pub(crate) struct Node {
 impl Model for Node {
     ghost use Rattle.std.specs.Option.{option_map};
     ghost use Rattle.std.specs.Arc.{arc_value};
+    ghost use Rattle.std.specs.Prelude.{◌≡◌, ◌⊎◌, [], None, IsSome};
     ghost use Rattle.srs_tree.specs.Nodes.{Spot};
+    ghost use Rattle.srs_tree.specs.KeptCells.{region_kept};
 
     ghost Value = { Spot };
 
-    ghost view = { λ n. record { path = n.path; region = arc_value n.cell; outcome = option_map arc_value n.outcome; parts = n.parts } };
+    ghost view = { λ n. record { path = n.path; region = region_kept (option_map arc_value n.cell) n.bare; outcome = option_map arc_value n.outcome; parts = n.parts } };
+
+    ghost invariant = { λ n. (IsSome n.cell ⊎ IsSome n.bare)
+        × (option_map arc_value n.outcome ≡ None → IsSome n.cell)
+        × (n.path ≡ [] → IsSome n.cell) };
 }
 
 impl Node {
@@ -46,7 +98,8 @@ impl Node {
     {
         Node {
             path,
-            cell,
+            cell: Some(cell),
+            bare: None,
             outcome: None,
             parts: 0,
         }
@@ -58,10 +111,27 @@ impl Node {
         self.path
     }
 
+    // The cell, where it is kept whole.
     pub(crate) fn cell(&self) -> &Arc<Cell>
+        requires { (self.now.outcome ≡ None) ⊎ (self.now.path ≡ []) }
         ensures { result.now.value ≡ self.now.region }
     {
-        &self.cell
+        let Some(cell) = &self.cell else {
+            unreachable!()
+        };
+        cell
+    }
+
+    pub(crate) fn region(&self) -> &Region
+        ensures { result.now ≡ self.now.region }
+    {
+        if let Some(cell) = &self.cell {
+            return cell.region();
+        }
+        let Some(bare) = &self.bare else {
+            unreachable!()
+        };
+        bare.region()
     }
 
     pub(crate) fn outcome(&self) -> Option<&Arc<Outcome>>
@@ -73,12 +143,23 @@ impl Node {
 
     // The cell with this outcome; its parts, if it has any, stand from the place `parts` on. An
     // `Err` is want of memory.
-    pub(crate) fn settled(&self, outcome: Arc<Outcome>, parts: usize) -> Result<Node, NoMemory>
+    pub(crate) fn settled(
+        &self,
+        alloc: Global,
+        outcome: Arc<Outcome>,
+        parts: usize,
+    ) -> Result<Node, NoMemory>
         ensures { IfOk result (λ node. node ≡ spot_with self.now outcome.value parts) }
     {
+        let cell = if self.path.len() == 0 {
+            Some(shared(self.cell())?)
+        } else {
+            None
+        };
         Ok(Node {
             path: self.path,
-            cell: shared(&self.cell)?,
+            cell,
+            bare: Some(Bare::of(alloc, self.region())?),
             outcome: Some(outcome),
             parts,
         })
@@ -142,11 +223,12 @@ impl Node {
 
     // The cell, which stands at this place, as one that waits.
     pub(crate) fn waiting(&self, place: usize) -> Result<Pending, NoMemory>
+        requires { (self.now.outcome ≡ None) ⊎ (self.now.path ≡ []) }
         ensures { IfOk result (λ cell. cell ≡ waiting_of self.now) }
     {
         Ok(Pending {
             path: self.path,
-            cell: shared(&self.cell)?,
+            cell: shared(self.cell())?,
             place,
         })
     }
@@ -157,7 +239,14 @@ impl Share for Node {
     fn share(&self) -> Result<Node, NoMemory> {
         Ok(Node {
             path: self.path,
-            cell: shared(&self.cell)?,
+            cell: match &self.cell {
+                Some(cell) => Some(shared(cell)?),
+                None => None,
+            },
+            bare: match &self.bare {
+                Some(bare) => Some(bare.copy()?),
+                None => None,
+            },
             outcome: match &self.outcome {
                 Some(outcome) => Some(shared(outcome)?),
                 None => None,

@@ -1,6 +1,6 @@
 -- The finding came to an open cell.
 use Rattle.srs_tree.specs.Queue.{cells_from}
-use Rattle.srs_tree.proofs.Entering.{ready, grown_ok}
+use Rattle.srs_tree.proofs.Entering.{grown_ok}
 use Rattle.srs_tree.proofs.Opened.{parts_ok}
 use Rattle.srs_tree.proofs.growth.enter.Goals as goal
 

@@ -10,7 +10,7 @@ returns-in-Some-clause-refused c =
 
 pub returns-then-not-same-clause-refused : goal.returns-then-not-same-clause-refused
 returns-then-not-same-clause-refused c =
-    let given : c.cell-then-not-same.result.now.value ≡ c.get-node.result.now.region = c.cell-then-not-same.ensures in
+    let given : c.cell.result.now.value ≡ c.get-node.result.now.region = c.cell.ensures in
     let apart : c.get-node.result.now.region ≡ c.args.f.region → ⊥ = λ e.
     let same : c.region.result.now ≡ c.region-2.result.now = cc in
     true≢false (sym (c.if-not-same.ensures.1 same)) in
