@@ -89,7 +89,7 @@ loop-i-preserved c =
     let grown : GrownTo c.args.c.now (c.loop-i.i + 1) (cells_from c.in_ok-ge.field-0 ++ c.take.new.self) c.enter.new.tree
     = grown_next c.args.c.now c.node_count-nodes.ensures.certificate c.loop-i.i c.in-Some.next c.take.new.self c.loop-i.tree s c.get-event.result.now at proves sound
     c.enter.new.tree c.in_ok-ge.ensures.entered (cells_from c.in_ok-ge.field-0) c.in_ok-ge.ensures.parts in
-    elim c.match-branch-5.branch [
+    elim c.match-branch-6.branch [
       | in-Some-2 w ↦
           subst (λ (xs : List WaitingCell). GrownTo c.args.c.now (c.loop-i.i + 1) xs c.enter.new.tree)
           (ap (λ (o : Option (WaitingCell × WaitingCell)). cells_from o ++ c.take.new.self) w.in-Some-2.is ∙ sym (w.waiting-is ∙ w.divide.ensures)) grown
