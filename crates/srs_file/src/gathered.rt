@@ -1,10 +1,12 @@
 // What is gathered while a tree is read: the paths that wait, and the events.
-ghost use Rattle.std.specs.Prelude.{◌≡◌, ◌↔◌, ◌++◌, [], ◌∷◌, IsTrue, IfErr, OnOk, MatchOption};
+ghost use Rattle.std.specs.Prelude.{◌≡◌, ◌↔◌, ◌++◌, [], ◌∷◌, IsTrue, IfOk, IfErr, OnOk, MatchOption};
+ghost use Rattle.std.specs.Arc.{arc_value};
+ghost use Rattle.srs_path.specs.declared.outcomes.Outcome.TheVariants.{Left};
 ghost use Rattle.srs_line.specs.Refusal.{IsSlip};
 ghost use Rattle.srs_file.specs.TreeReading.{at_path};
 
 use srs_line::LineErr;
-use srs_path::{Event, Outcome, Path};
+use srs_path::{Cause, Event, Outcome, Path};
 use srs_tree::Journal;
 use std::alloc::Global;
 use std::marker::Model;
@@ -57,19 +59,33 @@ impl PathStack {
     }
 }
 
-/// Events, seen as the list of them.
+// A cell that is left, for the cause.
+#[derive(Drop)]
+struct LeftCell {
+    cause: Cause,
+    outcome: Arc<Outcome>,
+}
+
+/// Events, seen as the list of them. Cells that are left in a row for one cause share their outcome.
 #[derive(Drop)]
 pub struct Events {
     alloc: Global,
     journal: Journal,
+    // The last cell that was left.
+    last: Option<LeftCell>,
 }
 
 impl Model for Events {
+    ghost use Rattle.std.specs.Prelude.{◌≡◌, IfSome};
+    ghost use Rattle.std.specs.Arc.{arc_value};
+    ghost use Rattle.srs_path.specs.declared.outcomes.Outcome.TheVariants.{Left};
     ghost use Rattle.srs_tree.specs.Tree.{History};
 
     ghost Value = { History };
 
     ghost view = { λ s. s.journal };
+
+    ghost invariant = { λ s. IfSome s.last (λ l. arc_value l.outcome ≡ Left l.cause) };
 }
 
 impl Events {
@@ -80,6 +96,7 @@ impl Events {
         Events {
             alloc,
             journal: Journal::new(alloc),
+            last: None,
         }
     }
 
@@ -93,11 +110,33 @@ impl Events {
         ensures ok { OnOk result (self.new ≡ self.old ++ at_path path outcome ∷ []) }
         ensures err { IfErr result (IsSlip (λ slip back. ⊥)) }
     {
-        let outcome = Arc::new(self.alloc, outcome)?;
+        let outcome = match outcome {
+            Outcome::Left(cause) => self.left(cause)?,
+            other => Arc::new(self.alloc, other)?,
+        };
         let Ok(()) = self.journal.push(Event { path, outcome }) else {
             return Err(LineErr::NoMemory);
         };
         Ok(())
+    }
+
+    // The outcome of a cell that is left. An `Err` is want of memory.
+    fn left(&mut self, cause: Cause) -> Result<Arc<Outcome>, LineErr>
+        ensures outcome { IfOk result (λ outcome. arc_value outcome ≡ Left cause) }
+        ensures same { self.new ≡ self.old }
+        ensures err { IfErr result (IsSlip (λ slip back. ⊥)) }
+    {
+        if let Some(last) = &self.last {
+            if last.cause == cause {
+                return Ok(Arc::try_clone(&last.outcome)?);
+            }
+        }
+        let outcome = Arc::new(self.alloc, Outcome::Left(cause))?;
+        self.last = Some(LeftCell {
+            cause,
+            outcome: Arc::try_clone(&outcome)?,
+        });
+        Ok(outcome)
     }
 
     pub fn into_journal(self) -> Journal
