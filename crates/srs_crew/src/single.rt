@@ -39,7 +39,7 @@ pub(crate) fn settle<R: Wait, G: Gate>(
 {
     let found = refiner.refine_or_leave(alloc, &cell.cell, last, atlas.w())?;
     gate.turn(rt, who, piece);
-    match atlas.commit(rt, alloc, pass, cell.path, found) {
+    match atlas.commit_at(rt, alloc, pass, cell, found) {
         Commit::Done(_) => Ok(()),
         Commit::Late(_) => Ok(()),
         Commit::NoMemory(_) => Err(NoMemory),

@@ -22,8 +22,9 @@ use Rattle.srs_tree.specs.Nodes.{open_cells, spot_of, waiting_of}
 use Rattle.std.proofs.Common.{map}
 use Rattle.srs_tree.specs.Rounds.{parts_by}
 use Rattle.srs_tree.specs.Queue.{WaitingCell, without, cell_in}
+use Rattle.srs_tree.specs.Ahead.{cells_made}
 use Rattle.srs_tree.proofs.OpenCells.{open_after}
-use Rattle.srs_tree.proofs.Opened.{parts_came, spots_again}
+use Rattle.srs_tree.proofs.Opened.{parts_came, spots_again, cells_again}
 use Rattle.srs_tree.proofs.Places.{set_left}
 use Rattle.srs_tree.proofs.Growing.{are_spots, snapshot_after, len_after, entries_fewer}
 use Rattle.srs_tree.proofs.Spots.{tree_there}
@@ -31,7 +32,8 @@ use Rattle.srs_tree.proofs.Descent.{read_spot, spots_closed}
 use Rattle.srs_tree.proofs.Regions.{proved_of, may_enter, is_open, spot_region}
 
 module _ (xs : List Spot) (p : List Side) (f : Found) (i : ℕ) (tree : AreSpots xs) (at : IsOpenAt xs p f.region i) where
-  is_spot : (x : Spot) → slice_get xs i ≡ Some x → at.spot ≡ x
+  -- the spot that was read
+  pub is_spot : (x : Spot) → slice_get xs i ≡ Some x → at.spot ≡ x
   is_spot x e = same_Some at.spot x (sym at.is ∙ e)
 
   -- where the path has at most 48 sides, the finding may come to the spot
@@ -82,6 +84,12 @@ module _ (xs : List Spot) (p : List Side) (f : Found) (i : ℕ) (tree : AreSpots
 
   pub parts_before : (x : Spot) → slice_get xs i ≡ Some x → map waiting_of (parts_from x f.outcome) ≡ coming
   parts_before x e = ap (λ (y : Spot). map waiting_of (parts_from y f.outcome)) (sym (is_spot xs p f i tree at x e)) ∙ coming_is
+
+  -- the same, by the cells that the outcome makes of the cell at the path
+  pub made_before : cells_made (record { path = p; region = f.region }) f.outcome ≡ coming
+  made_before =
+      ap₂ (λ (q : List Side) (R : Area). cells_made (record { path = q; region = R }) f.outcome) (sym at.at_path) (sym at.region)
+      ∙ sym (cells_again at.spot f.outcome) ∙ coming_is
 
   -- the same parts, entered
   pub grown_parts : (ys parts : List Spot) (cells : List WaitingCell) (o : Outcome) → parts ≡ map spot_of cells → cells ≡ coming → o ≡ f.outcome

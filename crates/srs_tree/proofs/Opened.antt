@@ -13,6 +13,7 @@ use Rattle.srs_path.specs.Soundness.{IsSound}
 use Rattle.srs_tree.specs.Rounds.{parts_by}
 use Rattle.srs_tree.specs.Growth.{IsProvedOf}
 use Rattle.srs_tree.specs.Queue.{WaitingCell, cell_in}
+use Rattle.srs_tree.specs.Ahead.{cells_made}
 use Rattle.srs_tree.specs.Nodes.{Spot, snapshot_of, AreSpots, part_of, parts_from, spot_of, waiting_of, grown, IsOpenAt}
 use Rattle.srs_tree.proofs.Places.{get_right}
 use Rattle.srs_tree.proofs.Growing.{settled, are_spots}
@@ -59,3 +60,10 @@ spots_again x (Inside ranks) = refl
 spots_again x (Outside cycle) = refl
 spots_again x (Cut h) = refl
 spots_again x (Left cause) = refl
+
+-- the parts that an outcome makes of a spot, as cells
+pub cells_again : (x : Spot) (o : Outcome) → map waiting_of (parts_from x o) ≡ cells_made (waiting_of x) o
+cells_again x (Inside ranks) = refl
+cells_again x (Outside cycle) = refl
+cells_again x (Cut h) = refl
+cells_again x (Left cause) = refl

@@ -4,6 +4,7 @@ pub mod Rounds
 pub mod Snapshots
 pub mod Growth
 pub mod Queue
+pub mod Ahead
 pub mod Nodes
 pub mod KeptCells
 pub mod Preorder

@@ -5,16 +5,18 @@ ghost use Rattle.std.specs.Arc.{arc_value};
 ghost use Rattle.srs_plane.specs.Regions.{Divides};
 ghost use Rattle.srs_path.specs.declared.paths.Side.TheVariants.{Ge as OnGe, Lt as OnLt};
 ghost use Rattle.srs_path.specs.Soundness.{IsSound};
-ghost use Rattle.srs_tree.specs.Growth.{IsShortCut, IsTreeErr, SaysDone, SaysOther};
-ghost use Rattle.srs_tree.specs.Nodes.{Spot, AreSpots, MaySettle, IsReadyFor, IsOpenAt, part_of};
+ghost use Rattle.srs_plane.specs.declared.regions.TheConstants.{MOST_HALVES};
+ghost use Rattle.srs_tree.specs.Ahead.{cell_on, cells_made, AreMadeBy};
+ghost use Rattle.srs_tree.specs.Growth.{IsProvedOf, IsShortCut, IsTreeErr, SaysDone, SaysOther};
+ghost use Rattle.srs_tree.specs.Nodes.{Spot, AreSpots, MaySettle, IsReadyFor, IsOpenAt};
 ghost use Rattle.srs_tree.specs.Nodes.{parts_from, spots_from, spot_of, waiting_of, grown};
 ghost use Rattle.srs_tree.specs.Nodes.{snapshot_of, HasGrown};
 ghost use Rattle.srs_tree.specs.Queue.{cell_in, cells_from};
 ghost use Rattle.srs_tree.specs.Rounds.{parts_by};
 ghost use Rattle.srs_tree.specs.Snapshots.{with_entry};
 
-use crate::nodes::{Node, Nodes, find, shared};
-use crate::waiting::Added;
+use crate::nodes::{Node, Nodes, find_near, shared};
+use crate::waiting::{Added, Ahead};
 use crate::{Pending, TreeErr};
 use srs_cell::{Cell, Parts};
 use srs_num::{Form, NoMemory};
@@ -23,13 +25,19 @@ use std::alloc::Global;
 use std::sync::Arc;
 
 // The place of the open cell at the path, and the finding, if it is of this cell's region.
-pub(crate) fn place_for(nodes: &Nodes, path: &Path, f: Finding) -> Result<(usize, Finding), TreeErr>
+// It is looked for at the place `near` first.
+pub(crate) fn place_for(
+    nodes: &Nodes,
+    near: usize,
+    path: &Path,
+    f: Finding,
+) -> Result<(usize, Finding), TreeErr>
     requires { AreSpots nodes.now }
     ensures place { IfOk result (λ p. IsOpenAt nodes.now path.now f.region p.0) }
     ensures finding { IfOk result (λ p. p.1 ≡ f) }
     ensures refused { IfErr result (λ e. IsTreeErr (snapshot_of nodes.now) path.now f e) }
 {
-    let i = match find(nodes, path) {
+    let i = match find_near(nodes, near, path) {
         Ok(i) => i,
         Err(longest) => return Err(TreeErr::NotThere(longest)),
     };
@@ -88,26 +96,43 @@ pub(crate) fn enter(
     enter_at(nodes, alloc, i, f)
 }
 
-// The parts that the finding's outcome makes of the open cell at the path, which stands at the
-// place `i`, as cells that wait. An `Err` is want of memory.
+// The cells that the finding's outcome makes of the open cell at the path, which stands at the place
+// `i`, as the tree will keep them. Those that were made ahead are taken, if there are any.
 pub(crate) fn parts_for(
     nodes: &Nodes,
     alloc: Global,
     path: &Path,
     i: usize,
     f: &Finding,
+    ahead: Option<(Pending, Pending)>,
 ) -> Result<Option<(Pending, Pending)>, NoMemory>
     requires spots { AreSpots nodes.now }
     requires there { IsOpenAt nodes.now path.now f.now.region i }
     requires short { IsShortCut path.now f.now.outcome }
+    requires ahead { AreMadeBy (record { path = path.now; region = f.now.region }) f.now.outcome ahead }
     ensures { IfOk result (λ parts. cells_from parts
         ≡ map (cell_in (with_entry (snapshot_of nodes.now) path.now f.now.outcome)) (parts_by path.now f.now.outcome)) }
 {
-    // A path has at most 48 sides, so a cell has at most 64 halves.
+    // A path has at most 48 sides, so a cell has at most 64 halves; and a finding is sound.
     let _ = path.len();
+    let _ = f.w();
     let place = nodes.len();
-    let parts = parts_of(alloc, nodes.get(i), f.outcome())?;
-    open_parts(&parts, place)
+    let parts = match ahead {
+        Some(parts) => Some(parts),
+        None => cells_of(alloc, path, nodes.get(i).cell(), f.outcome())?,
+    };
+    Ok(placed(parts, place))
+}
+
+// The two cells, if there are any, which the tree will keep from this place on.
+fn placed(parts: Option<(Pending, Pending)>, place: usize) -> Option<(Pending, Pending)>
+    requires { place ≤ 2 ^ 48 }
+    ensures { cells_from result ≡ cells_from parts }
+{
+    match parts {
+        Some((ge, lt)) => Some((ge.at(place), lt.at(place + 1))),
+        None => None,
+    }
 }
 
 // As `enter`, with the parts that were made for it.
@@ -230,10 +255,12 @@ fn parts_of(alloc: Global, node: &Node, outcome: &Outcome) -> Result<Option<(Nod
     requires { MaySettle node.now outcome.now }
     ensures { IfOk result (λ parts. spots_from parts ≡ parts_from node.now outcome.now) }
 {
-    match outcome {
-        Outcome::Cut(h) => Ok(Some(halves(alloc, node, h)?)),
-        Outcome::Inside(_) | Outcome::Outside(_) | Outcome::Left(_) => Ok(None),
-    }
+    Ok(nodes_of(cells_of(
+        alloc,
+        &node.path(),
+        node.cell(),
+        outcome,
+    )?))
 }
 
 // The parts, which will stand from this place on, as open cells.
@@ -251,36 +278,88 @@ fn open_parts(
     }
 }
 
-// The two parts of the cell, which the form divides.
-fn halves(alloc: Global, node: &Node, h: &Form) -> Result<(Node, Node), NoMemory>
-    requires fresh { node.now.outcome ≡ None }
-    requires divides { Divides node.now.region h.now }
-    requires room { length node.now.path < 48 }
-    requires few { length node.now.region < 80 }
-    ensures ge { IfOk result (λ p. p.0 ≡ part_of node.now OnGe h.now) }
-    ensures lt { IfOk result (λ p. p.1 ≡ part_of node.now OnLt h.now) }
+/// The cells that the finding's outcome makes of the cell, where the finding is of its region, so
+/// that they are made before the tree is waited for. Where it is of another region, nothing is made
+/// that `prepare` could take. An `Err` is want of memory.
+pub fn parts_ahead(alloc: Global, cell: &Pending, f: &Finding) -> Result<Ahead, NoMemory>
+    requires short { IsShortCut cell.now.path f.now.outcome }
+    requires few { length cell.now.region < MOST_HALVES }
+    ensures made { IfOk result (λ ahead. cell.now.region ≡ f.now.region →
+        cells_from ahead.parts ≡ cells_made cell.now f.now.outcome) }
+    ensures only { IfOk result (λ ahead. AreMadeBy
+        (record { path = cell.now.path; region = f.now.region }) f.now.outcome ahead.parts) }
 {
-    match node.cell().cut(alloc, h)? {
+    // A finding is sound.
+    let _ = f.w();
+    let parts = if cell.cell.region().same(f.region()) {
+        cells_of(alloc, &cell.path, &cell.cell, f.outcome())?
+    } else {
+        None
+    };
+    Ok(Ahead {
+        parts,
+        near: cell.place,
+    })
+}
+
+// The cells that the outcome makes of the cell at the path: two for a cut, else none.
+fn cells_of(
+    alloc: Global,
+    path: &Path,
+    cell: &Cell,
+    outcome: &Outcome,
+) -> Result<Option<(Pending, Pending)>, NoMemory>
+    requires short { IsShortCut path.now outcome.now }
+    requires proved { IsProvedOf cell.now outcome.now }
+    requires few { length cell.now < MOST_HALVES }
+    ensures { IfOk result (λ parts. cells_from parts
+        ≡ cells_made (record { path = path.now; region = cell.now }) outcome.now) }
+{
+    match outcome {
+        Outcome::Cut(h) => Ok(Some(halves(alloc, path, cell, h)?)),
+        Outcome::Inside(_) | Outcome::Outside(_) | Outcome::Left(_) => Ok(None),
+    }
+}
+
+// The two parts of the cell at the path, which the form divides.
+fn halves(
+    alloc: Global,
+    path: &Path,
+    cell: &Cell,
+    h: &Form,
+) -> Result<(Pending, Pending), NoMemory>
+    requires divides { Divides cell.now h.now }
+    requires room { length path.now < 48 }
+    requires few { length cell.now < MOST_HALVES }
+    ensures ge { IfOk result
+        (λ p. p.0 ≡ cell_on OnGe h.now (record { path = path.now; region = cell.now })) }
+    ensures lt { IfOk result
+        (λ p. p.1 ≡ cell_on OnLt h.now (record { path = path.now; region = cell.now })) }
+{
+    match cell.cut(alloc, h)? {
         Parts::Both(ge, lt) => Ok((
-            part(alloc, &node.path(), Side::Ge, ge)?,
-            part(alloc, &node.path(), Side::Lt, lt)?,
+            part(alloc, path, Side::Ge, ge)?,
+            part(alloc, path, Side::Lt, lt)?,
         )),
         Parts::AllGe | Parts::AllLt => unreachable!(),
     }
 }
 
-// A part of the cell at the path.
-fn part(alloc: Global, path: &Path, s: Side, cell: Cell) -> Result<Node, NoMemory>
+// A part of the cell at the path, which no tree keeps yet.
+fn part(alloc: Global, path: &Path, s: Side, cell: Cell) -> Result<Pending, NoMemory>
     requires { length path.now < 48 }
     ensures { IfOk result
-        (λ node. node ≡
-        record { path = path.now ++ s ∷ []; region = cell; outcome = None; parts = 0 }) }
+        (λ made. made ≡ record { path = path.now ++ s ∷ []; region = cell }) }
 {
-    let Some(child) = path.child(s) else {
+    let Some(path) = path.child(s) else {
         unreachable!()
     };
     match Arc::new(alloc, cell) {
-        Ok(cell) => Ok(Node::open(child, cell)),
+        Ok(cell) => Ok(Pending {
+            path,
+            cell,
+            place: 0,
+        }),
         Err(_) => Err(NoMemory),
     }
 }

@@ -6,11 +6,12 @@ ghost use Rattle.std.specs.FinMap as map;
 ghost use Rattle.srs_tree.specs.Snapshots.{with_entry};
 ghost use Rattle.srs_tree.specs.Rounds.{parts_by};
 ghost use Rattle.srs_tree.specs.Queue.{cell_in, cells_from, without};
+ghost use Rattle.srs_tree.specs.Ahead.{AreMadeBy};
 ghost use Rattle.srs_tree.specs.Growth.{IsShortCut, MayEnter, IsTreeErr};
 
 use crate::growth::{enter, enter_parts, parts_for, place_for};
 use crate::nodes::{Node, Nodes, open_in, place_near};
-use crate::waiting::{Added, Prepared};
+use crate::waiting::{Added, Ahead, Prepared};
 use crate::{Pending, PendingList, TreeErr, Version};
 use srs_cell::Cell;
 use srs_num::NoMemory;
@@ -82,7 +83,7 @@ impl GrowingTree {
         ensures refused { IfErr result (λ e. IsTreeErr self.old.version path f e) }
         ensures same { OnErr result (self.new ≡ self.old) }
     {
-        let (i, f) = place_for(&self.nodes, &path, f)?;
+        let (i, f) = place_for(&self.nodes, 0, &path, f)?;
         match enter(&mut self.nodes, alloc, &path, i, f) {
             Ok(added) => {
                 self.count += 1;
@@ -93,21 +94,30 @@ impl GrowingTree {
     }
 
     /// The finding, if it may be entered at the path, with the cells that a cut makes: for who has
-    /// to find memory for these before the tree grows. A cut's path is shorter than 48.
-    pub fn prepare(&self, alloc: Global, path: Path, f: Finding) -> Result<Prepared, TreeErr>
-        requires { IsShortCut path f.outcome }
+    /// to find memory for these before the tree grows. Cells that were made ahead are taken. A
+    /// cut's path is shorter than 48.
+    pub fn prepare(
+        &self,
+        alloc: Global,
+        path: Path,
+        f: Finding,
+        ahead: Ahead,
+    ) -> Result<Prepared, TreeErr>
+        requires short { IsShortCut path f.outcome }
+        requires ahead { AreMadeBy (record { path = path; region = f.region }) f.outcome ahead.parts }
         ensures may { OnOk result (MayEnter self.now.version path f) }
         ensures finding { IfOk result (λ p. p.finding ≡ f) }
         ensures parts { IfOk result (λ p. cells_from p.parts
             ≡ map_list (cell_in (with_entry self.now.version path f.outcome)) (parts_by path f.outcome)) }
         ensures refused { IfErr result (λ e. IsTreeErr self.now.version path f e) }
     {
-        let (near, finding) = place_for(&self.nodes, &path, f)?;
-        match parts_for(&self.nodes, alloc, &path, near, &finding) {
+        let Ahead { parts, near } = ahead;
+        let (i, finding) = place_for(&self.nodes, near, &path, f)?;
+        match parts_for(&self.nodes, alloc, &path, i, &finding, parts) {
             Ok(parts) => Ok(Prepared {
                 finding,
                 parts,
-                near,
+                near: i,
             }),
             Err(NoMemory) => Err(TreeErr::NoMemory(finding)),
         }

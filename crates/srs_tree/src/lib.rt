@@ -20,6 +20,7 @@ mod walks;
 
 pub use answers::{Answer, Met, Reply};
 pub use builders::TreeBuilder;
+pub use growth::parts_ahead;
 pub use in_place::GrowingTree;
 pub use journals::Journal;
 pub use laws::{histories, one_answer, whole_trees};
@@ -28,4 +29,4 @@ pub use refusals::TreeErr;
 pub use sessions::{Ascending, Few, Run, Script, Segment, Session, Transcript, Transcripts};
 pub use sharing::shared;
 pub use versions::{Grown, Version};
-pub use waiting::{Added, Pending, PendingList, Prepared};
+pub use waiting::{Added, Ahead, Pending, PendingList, Prepared};

@@ -312,16 +312,27 @@ pub(crate) fn find(nodes: &Nodes, path: &Path) -> Result<usize, Path>
     Ok(at)
 }
 
+// As `find`. It is looked for at the place `near` first.
+pub(crate) fn find_near(nodes: &Nodes, near: usize, path: &Path) -> Result<usize, Path>
+    requires { AreSpots nodes.now }
+    ensures found { IfOk result (λ i. IsPlaceOf nodes.now path.now i) }
+    ensures within { IfOk result (λ i. i < length nodes.now) }
+    ensures not_there { IfErr result (λ p. IsLongestCell (spots_tree nodes.now) path.now p) }
+    ensures no_cell { OnErr result (IsCellOf (spots_tree nodes.now) path.now → ⊥) }
+{
+    if near < nodes.len() && nodes.get(near).path().same(path) {
+        return Ok(near);
+    }
+    find(nodes, path)
+}
+
 // The place of the cell at the path. It is looked for at the place `near` first.
 pub(crate) fn place_near(nodes: &Nodes, near: usize, path: &Path) -> usize
     requires spots { AreSpots nodes.now }
     requires cell { IsCellOf (spots_tree nodes.now) path.now }
     ensures { IsPlaceOf nodes.now path.now result }
 {
-    if near < nodes.len() && nodes.get(near).path().same(path) {
-        return near;
-    }
-    match find(nodes, path) {
+    match find_near(nodes, near, path) {
         Ok(i) => i,
         Err(_) => unreachable!(),
     }

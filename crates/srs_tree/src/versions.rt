@@ -173,7 +173,7 @@ impl Version {
             cells_from g.parts ≡ map_list (cell_in g.version) (parts_by path f.outcome)) }
         ensures refused { IfErr result (λ e. IsTreeErr self.now path f e) }
     {
-        let (i, f) = place_for(&self.nodes, &path, f)?;
+        let (i, f) = place_for(&self.nodes, 0, &path, f)?;
         let mut nodes = match self.nodes.share(alloc) {
             Ok(nodes) => nodes,
             Err(NoMemory) => return Err(TreeErr::NoMemory(f)),

@@ -1,4 +1,6 @@
 // Cells without an event.
+ghost use Rattle.std.specs.Prelude.{◌≡◌};
+
 use srs_cell::Cell;
 use srs_num::Items;
 use srs_path::{Finding, Outcome, Path};
@@ -23,6 +25,16 @@ impl Model for Pending {
     ghost view = { λ p. record { path = p.path; region = arc_value p.cell } };
 }
 
+impl Pending {
+    // The same cell, which its tree keeps at this place.
+    pub(crate) fn at(self, place: usize) -> Pending
+        ensures { result ≡ self }
+    {
+        let Pending { path, cell, .. } = self;
+        Pending { path, cell, place }
+    }
+}
+
 /// Cells without an event, seen as the list of them.
 pub type PendingList = Items<Pending>;
 
@@ -31,6 +43,14 @@ pub type PendingList = Items<Pending>;
 pub struct Added {
     pub outcome: Arc<Outcome>,
     pub parts: Option<(Pending, Pending)>,
+}
+
+/// What is made of a finding before it comes to a tree: the two cells of a cut, if they are made yet.
+#[derive(Drop)]
+pub struct Ahead {
+    pub parts: Option<(Pending, Pending)>,
+    /// Where the tree keeps the cell: it looks there first. It tells nothing else.
+    pub near: usize,
 }
 
 /// A finding that may be entered in a tree, with the two cells that a cut makes, Ge first.

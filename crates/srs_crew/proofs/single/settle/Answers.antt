@@ -7,24 +7,24 @@ use Rattle.srs_tree.specs.Queue.{WaitingCell}
 use Rattle.srs_crew.proofs.Working.{fits_at, outcome_same, by_done, not_there, not_other}
 use Rattle.srs_crew.proofs.single.settle.Goals as goal
 
-pub commit-requires-clause-planned : goal.commit-requires-clause-planned
-commit-requires-clause-planned g c =
+pub commit_at-requires-clause-planned : goal.commit_at-requires-clause-planned
+commit_at-requires-clause-planned g c =
     fits_at c.args.atlas.now.fixed c.args.pass.now.seen c.args.last c.args.cell.now c.requires.work c.in_ok-found.found
     (outcome_same _ _ _ _ c.args.last c.in_ok-found.found.outcome (c.deref.ensures ∙ ap (λ (x : WaitingCell). x.region) c.cell.view_is) c.w.ensures.w c.in_ok-found.ensures.outcome)
     c.w.ensures.terms c.cell.inside.path (ap (λ (x : WaitingCell). x.path) c.cell.view_is)
 
 pub returns-in-Done-clause-done : goal.returns-in-Done-clause-done
 returns-in-Done-clause-done g c =
-    subst (λ (p : List Side). IsSome (outcome_at c.commit.new.pass.seen p)) (ap (λ (x : WaitingCell). x.path) c.cell.view_is)
-    (by_done c.args.atlas.now.fixed c.in-Done.ensures.did.0 c.commit.new.pass.seen c.cell.inside.path c.in_ok-found.found c.in-Done.field-0 c.in-Done.ensures.did.2)
+    subst (λ (p : List Side). IsSome (outcome_at c.commit_at.new.pass.seen p)) (ap (λ (x : WaitingCell). x.path) c.cell.view_is)
+    (by_done c.args.atlas.now.fixed c.in-Done.ensures.did.0 c.commit_at.new.pass.seen c.cell.inside.path c.in_ok-found.found c.in-Done.field-0 c.in-Done.ensures.did.2)
 
 pub unreachable-requires : goal.unreachable-requires
 unreachable-requires g c =
-    not_there c.args.atlas.now.fixed c.args.pass.now.seen c.args.last c.args.cell.now c.requires.work c.in_ok-found.found c.in-NotThere.ensures.did.0 c.commit.new.pass.seen c.in-NotThere.ensures.did.1
+    not_there c.args.atlas.now.fixed c.args.pass.now.seen c.args.last c.args.cell.now c.requires.work c.in_ok-found.found c.in-NotThere.ensures.did.0 c.commit_at.new.pass.seen c.in-NotThere.ensures.did.1
     c.cell.inside.path (ap (λ (x : WaitingCell). x.path) c.cell.view_is) c.in-NotThere.field-0 c.in-NotThere.ensures.did.2
 
 pub unreachable-requires-in-OtherCell : goal.unreachable-requires-in-OtherCell
 unreachable-requires-in-OtherCell g c =
-    not_other c.args.atlas.now.fixed c.args.pass.now.seen c.args.last c.args.cell.now c.requires.work c.in_ok-found.found c.in-OtherCell.ensures.did.0 c.commit.new.pass.seen c.in-OtherCell.ensures.did.1
+    not_other c.args.atlas.now.fixed c.args.pass.now.seen c.args.last c.args.cell.now c.requires.work c.in_ok-found.found c.in-OtherCell.ensures.did.0 c.commit_at.new.pass.seen c.in-OtherCell.ensures.did.1
     c.cell.inside.path (ap (λ (x : WaitingCell). x.path) c.cell.view_is) c.in-OtherCell.field-0
     (c.in_ok-found.ensures.region ∙ c.deref.ensures ∙ ap (λ (x : WaitingCell). x.region) c.cell.view_is) c.in-OtherCell.ensures.lawful c.in-OtherCell.ensures.did.2

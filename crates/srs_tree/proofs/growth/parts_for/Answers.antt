@@ -1,24 +1,25 @@
--- The parts are those of the open cell, and cells of the tree with the outcome.
-use Rattle.std.proofs.Common.{◌≡◌, ◌∙◌, ap, sym, subst, List, map, arith}
-use Rattle.std.specs.Prelude.{IfOk}
+-- The cells are those that the outcome makes of the open cell, and so cells of the tree with the outcome.
+use Rattle.std.proofs.Common.{◌≡◌, ◌∙◌, ap, ap₂, sym, subst, arith}
+use Rattle.srs_plane.specs.Regions.{Area}
+use Rattle.srs_path.specs.declared.outcomes.Outcome.{Outcome}
+use Rattle.srs_tree.specs.Nodes.{Spot}
 use Rattle.srs_tree.specs.Queue.{WaitingCell, cells_from}
-use Rattle.srs_tree.specs.Nodes.{MaySettle, parts_from, waiting_of}
-use Rattle.srs_tree.proofs.Entering.{ready, may_settle, parts_before}
+use Rattle.srs_tree.specs.Ahead.{cells_made, AreMadeBy}
+use Rattle.srs_tree.proofs.Entering.{is_spot, made_before}
 use Rattle.srs_tree.proofs.growth.parts_for.Goals as goal
-
-pub parts_of-requires : goal.parts_of-requires
-parts_of-requires c =
-    let nodes = c.args.nodes.now in
-    subst (MaySettle c.get.result.now) (sym c.outcome.ensures.outcome)
-    (may_settle c.get.result.now c.args.f.now
-    (ready nodes c.args.path.now c.args.f.now c.args.i c.requires.spots c.requires.there (omega (arith, c.len.ensures.short, c.len.ensures.len)) c.requires.short c.get.result.now c.get.ensures.item)
-    c.outcome.ensures.sound)
+use Rattle.srs_tree.proofs.growth.parts_for.Goals.{in-Some, in-None+in_ok-parts-in-None}
 
 pub returns : goal.returns
 returns c =
-    let nodes = c.args.nodes.now in
-    subst (λ (cells : List WaitingCell). IfOk c.open_parts.result (λ parts. cells_from parts ≡ cells))
-    (ap (map waiting_of) (c.in_ok-parts.ensures ∙ ap (parts_from c.get.result.now) c.outcome.ensures.outcome)
-    ∙ parts_before nodes c.args.path.now c.args.f.now c.args.i c.requires.spots c.requires.there (omega (arith, c.len-place.ensures.most, c.len-place.ensures.len)) c.outcome.ensures.sound
-    c.get.result.now c.get.ensures.item)
-    c.open_parts.ensures
+    let f = c.args.f.now in
+    let at = c.requires.there in
+    let cell : Area → WaitingCell = λ R. record { path = c.args.path.now; region = R } in
+    let made : cells_from c.match-ahead.parts ≡ cells_made (cell f.region) f.outcome = elim c.match-ahead.branch [
+      in-Some w ↦ ap cells_from w.parts-is ∙ subst (AreMadeBy (cell f.region) f.outcome) w.in-Some.is c.requires.ahead
+      | in-None+in_ok-parts-in-None w ↦
+        let same = ap (λ (x : Spot). x.region) (sym (is_spot c.args.nodes.now c.args.path.now f c.args.i c.requires.spots at w.get.result.now w.get.ensures.item)) ∙ at.region in
+        ap cells_from w.parts-is ∙ w.in_ok-parts-in-None.ensures
+        ∙ ap₂ (λ (R : Area) (o : Outcome). cells_made (cell R) o) (w.deref.ensures ∙ w.cell.ensures ∙ same) w.outcome.ensures.outcome
+    ] in
+    c.placed.ensures ∙ made
+    ∙ made_before c.args.nodes.now c.args.path.now f c.args.i c.requires.spots at (omega (arith, c.len-place.ensures.most, c.len-place.ensures.len)) c.w.ensures.sound

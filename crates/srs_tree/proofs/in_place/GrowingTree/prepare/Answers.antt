@@ -7,6 +7,6 @@ use Rattle.srs_tree.proofs.in_place.GrowingTree.prepare.Goals as goal
 
 pub returns-in-Ok-clause-may : goal.returns-in-Ok-clause-may
 returns-in-Ok-clause-may c =
-    let at = c.in_ok-near.ensures.place in
+    let at = c.in_ok-i.ensures.place in
     subst (λ (g : Growing). MayEnter g.version c.args.path c.args.f) c.self.view_is
-    (may_enter c.self.inside.nodes c.self.invariant.spots c.in_ok-near.near at.spot c.args.path c.args.f at.is at.at_path at.fresh at.region)
+    (may_enter c.self.inside.nodes c.self.invariant.spots c.in_ok-i.i at.spot c.args.path c.args.f at.is at.at_path at.fresh at.region)
