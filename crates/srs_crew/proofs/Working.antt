@@ -104,17 +104,13 @@ module _ (terms : Terms) (seen : History) (last : Option Last) (c : WaitingCell)
               next = record { rows_done = λ p cell l. r.rows_done p cell (omega (arith, l, w.is_cell.depth)); by_plan = plan };
             }
 
-    -- the same, for a path and a region that are those of the cell
-    pub fits_at : AreTerms terms → (path : List Side) → path ≡ c.path → (start : History) × Begins start seen × ((L : Budget) → terms.plan ≡ Some L → FitsPlan terms.root L start path f.outcome)
-    fits_at bounds path e = subst (λ (p : List Side). (start : History) × Begins start seen × ((L : Budget) → terms.plan ≡ Some L → FitsPlan terms.root L start p f.outcome)) (sym e) (fits bounds)
-
   -- what a commit's answer can't be
-  module _ (f : Found) (before after : History) (b : Begins seen before) (path : List Side) (e : path ≡ c.path) where
-    pub not_there : (p : List Side) → RepliesWith terms before path f (NotThere p) after → ⊥
-    not_there p a = a.1 (subst (IsCellOf (outcome_at before)) (sym e) (cell_stands before b))
+  module _ (f : Found) (before after : History) (b : Begins seen before) where
+    pub not_there : (p : List Side) → RepliesWith terms before c.path f (NotThere p) after → ⊥
+    not_there p a = a.1 (cell_stands before b)
 
-    pub not_other : (d : Arc Cell Global) → f.region ≡ c.region → IsLawful terms after → RepliesWith terms before path f (OtherCell d) after → ⊥
-    not_other d same lawful a = a.3 (same ∙ region_stands before b (subst (IsLawful terms) a.0 lawful) ∙ ap (region_at terms.root (outcome_at before)) (sym e) ∙ sym a.2)
+    pub not_other : (d : Arc Cell Global) → f.region ≡ c.region → IsLawful terms after → RepliesWith terms before c.path f (OtherCell d) after → ⊥
+    not_other d same lawful a = a.3 (same ∙ region_stands before b (subst (IsLawful terms) a.0 lawful) ∙ sym a.2)
 
 pub outcome_same : (R S : Area) (V W : ℕ) (last : Option Last) (o : Outcome) → R ≡ S → V ≡ W → (o ≡ Left Memory) ⊎ Refines R last V o → (o ≡ Left Memory) ⊎ Refines S last W o
 outcome_same R S V W last o r w (inl m) = inl m

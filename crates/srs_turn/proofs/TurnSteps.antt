@@ -9,7 +9,7 @@ use Rattle.srs_turn.specs.declared.view.Role.{Role}
 use Rattle.srs_turn.specs.declared.view.Role.TheVariants.{Idle, Holder, Joining, Spent}
 use Rattle.srs_turn.specs.declared.view.View.{View}
 use Rattle.srs_turn.specs.Prefixes.{Begins, longer}
-use Rattle.srs_turn.specs.TurnWords.{knows, spent_view, Fits, IsHeldBy, joining_view, IsIdle, Counted, Freed, Compared, first_view, IsHome, IsTurnTable, Tried, Grew}
+use Rattle.srs_turn.specs.TurnWords.{knows, spent_view, Fits, IsHeldBy, joining_view, IsIdle, Counted, Looked, Freed, Compared, first_view, IsHome, IsTurnTable, Tried, Grew}
 use Rattle.srs_turn.proofs.PrefixLemmas.{begins_refl, begins_trans, begins_either, longer_begins}
 
 -- a seat with nothing in hand is no holder
@@ -124,6 +124,16 @@ module _ {B E F : Type 0} (told : B → List E) (fixed : B → F) (f : F) where
   -- the same of each seat that holds nothing
   pub counts : (slots id : ℕ) (m : M) → IsIdle m → Allows Rule slots id m 1 (λ n. n) (Counted (step slots 1 0 0 none) m)
   counts slots id m h = subst (λ (m : M). Allows Rule slots id m 1 (λ n. n) (Counted (step slots 1 0 0 none) m)) (as_idle m h) (counts_at slots id m.0.seen m.0.fixed)
+
+  -- the load of the turn
+  looks_at : (slots id : ℕ) (seen : List E) (g : Option F) → Allows Rule slots id (knows Idle seen g, []) 0 (λ n. n) (Looked (step slots 0 0 0 none) (knows Idle seen g, []))
+  looks_at slots id seen g s r long at lt =
+      let w : V = knows Idle seen g in
+      (w, keeps, tt, unmoved s r 0 id [] w (omega arith) (r.each id w at) (held_other r.lock r.holder id s.views w w at not_holder_idle r.held), refl)
+
+  -- the same of each seat that holds nothing
+  pub looks : (slots id : ℕ) (m : M) → IsIdle m → Allows Rule slots id m 0 (λ n. n) (Looked (step slots 0 0 0 none) m)
+  looks slots id m h = subst (λ (m : M). Allows Rule slots id m 0 (λ n. n) (Looked (step slots 0 0 0 none) m)) (as_idle m h) (looks_at slots id m.0.seen m.0.fixed)
 
   -- what a step owes, at a table whose words and slots are known
   abbrev Goes : List ℕ → List (mathlib.Core.Option.Option (Option B)) → List V → ℕ → M → ℕ → (ℕ → ℕ) → (ℕ → M → Type 0) → Type 0

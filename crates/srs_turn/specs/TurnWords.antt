@@ -54,6 +54,10 @@ module _ {S E F : Type 0} where
   abbrev pub Counted : Step S → Me S (View E F) → ℕ → Me S (View E F) → Type 0
   Counted step old found new = IsIdle new × (new.0.fixed ≡ old.0.fixed) × Begins old.0.seen new.0.seen × (length new.0.seen ≡ found)
 
+  -- the seat is as before
+  abbrev pub Looked : Step S → Me S (View E F) → ℕ → Me S (View E F) → Type 0
+  Looked step old found new = new ≡ old
+
   -- the seat gave up the turn, with its book
   abbrev pub Freed : Step S → Me S (View E F) → ℕ → Me S (View E F) → Type 0
   Freed step old found new = new ≡ (record old.0 { role = Idle }, [])

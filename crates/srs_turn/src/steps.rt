@@ -6,12 +6,13 @@ ghost use Rattle.srs_turn.specs.Holding.{WaitsFor, StillWaits, HoldsWithBookOut,
 
 use crate::told::Told;
 use crate::turn::Turn;
-use crate::view::{Freeing, Growing, View, Winning};
+use crate::view::{Freeing, Growing, Looking, View, Winning};
 use atomic_table::Seat;
 use std::sync::Wait;
 
-// So often does a seat try for a turn that is held before it sleeps.
-const TRIES: u32 = 200;
+// So often does a seat try for a turn that is held before it sleeps. A try is mostly a look at a word
+// that the waiting seats share, so that the holder isn't hindered by it.
+const TRIES: u32 = 2000;
 
 // A seat of a turn round a `B`. While it holds the turn it is no pass, so these steps are on seats.
 type SeatOf<B> = Seat<Option<B>, View<<B as Told>::Entry, <B as Told>::Fixed>>;
@@ -51,7 +52,8 @@ impl<B: Told> Turn<B> {
         None
     }
 
-    // Takes the book out of the slot where nobody holds the turn.
+    // Takes the book out of the slot where nobody holds the turn. It looks first, since a
+    // compare-exchange takes the word from the holder even where it fails.
     fn try_take(&self, seat: &mut SeatOf<B>) -> Option<B>
         requires { WaitsFor self.now seat.old }
         ensures held { IfSome result (λ book. HoldsWithBookOut self.now seat.new) }
@@ -61,6 +63,9 @@ impl<B: Told> Turn<B> {
         ensures none { IfNone result (StillWaits seat.old seat.new) }
     {
         let shared = &self.table.shared;
+        if shared.load::<Looking>(seat, 0) != 0 {
+            return None;
+        }
         let found = shared.compare_exchange::<Winning<B>>(seat, 0, 0, 1);
         if found != 0 {
             return None;

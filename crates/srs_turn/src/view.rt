@@ -61,6 +61,15 @@ impl<S, E, F> Play<S, View<E, F>> for Counting {
     ghost then = { Counted };
 }
 
+// What the load of the turn tells: the seat is as before.
+pub struct Looking;
+
+impl<S, E, F> Play<S, View<E, F>> for Looking {
+    ghost use Rattle.srs_turn.specs.TurnWords.{Looked};
+
+    ghost then = { Looked };
+}
+
 // What the compare-exchange of the turn tells.
 pub struct Winning<B> {
     book: PhantomData<B>,
