@@ -39,6 +39,15 @@ digits_back (suc n) b h =
     ∙ ap₂ (λ (x y : ℕ). x * 2 + y) (digits_back n (b / 2) half) (digit_back (b % 2) (omega arith))
     ∙ omega arith
 
+-- the number of a cell, by the digits of its path
+pub number_is : (n b : ℕ) → b < 2 ^ n → digits_then 1 (sides_of n b) ≡ 2 ^ n + b
+number_is zero b h = omega (arith, h)
+number_is (suc n) b h =
+    let half : b / 2 < 2 ^ n = omega (arith, h, pow-suc 2 n) in
+    digits_then-push 1 (sides_of n (b / 2)) (side_of (b % 2))
+    ∙ ap₂ (λ (x y : ℕ). x * 2 + y) (number_is n (b / 2) half) (digit_back (b % 2) (omega arith))
+    ∙ omega (arith, pow-suc 2 n)
+
 pub packed : (n b : ℕ) → n ≤ 48 → b < 2 ^ n → IsPacked n b
 packed n b short below = record { short = short; below = below; count = count_of n b; digits = digits_back n b below }
 

@@ -3,7 +3,7 @@ ghost use Rattle.std.specs.Prelude.{◌≡◌, ◌<◌, ◌≤◌, [], ◌∷◌
 ghost use Rattle.std.specs.Prelude.{IsTrue, MatchOption, IsSome};
 ghost use Rattle.srs_path.specs.declared.limits.TheConstants.{MOST_DEPTH};
 ghost use Rattle.srs_path.specs.declared.paths.Side.{Side};
-ghost use Rattle.srs_path.specs.Paths.{digit_of};
+ghost use Rattle.srs_path.specs.Paths.{digit_of, digits_then};
 
 use crate::MOST_DEPTH;
 use std::marker::Model;
@@ -77,6 +77,14 @@ impl Path {
         } else {
             Side::Lt
         }
+    }
+
+    /// The number of its cell, where the root has the number 1, and the parts of the cell k have
+    /// 2k and 2k + 1.
+    pub fn number(&self) -> u64
+        ensures { result ≡ digits_then 1 self.now }
+    {
+        (1 << self.len) + self.digits
     }
 
     /// The path without its last side. `None` exactly at the root.
