@@ -2,8 +2,6 @@
 use Rattle.std.proofs.Common.{◌≡◌, ◌≢◌, ℕ, zero, suc, ◌+◌, ◌*◌, ◌^◌, ◌<◌, ◌≤◌, Bool, true, false, not, cond, eqb, List, [], ◌∷◌, ◌++◌, length, map, take, drop, get_or, slice_get, refl, sym, ap, ap₂, subst, ◌∙◌, arith}
 use Rattle.std.specs.Prelude.{reverse, IsSome}
 use Rattle.std.specs.List.{AllByRecursion, filter}
-use Rattle.std.specs.Ordering.{nat_cmp}
-use Rattle.std.specs.BTreeMap.{BTreeMap, get, Updates, IsUnchanged}
 use Rattle.std.specs.declared.option.Option.{Option}
 use Rattle.std.specs.declared.option.Option.TheVariants.{Some, None}
 use Rattle.std.proofs.Math.Nat.{pow-suc}
@@ -254,14 +252,3 @@ pub without_last : (cells : List WaitingCell) (cell : WaitingCell) → LacksPath
 without_last cells cell l =
     filter-append (λ (c : WaitingCell). not (path_eq cell.path c.path)) cells (cell ∷ [])
     ∙ ap₂ (λ (xs ys : List WaitingCell). xs ++ ys) (without_lacking cell.path cells l) (ap (λ (b : Bool). cond (not b) (cell ∷ []) []) (path_eq_same cell.path)) ∙ append-nil cells
-
--- a slice of a path, with one side more: its number, and how large it is
-pub number_more : (path : List Side) (i number later : ℕ) (s : Side) → i < length path → slice_get path i ≡ Some s → number ≡ digits_then 1 (take i path) → number < 2 ^ (i + 1)
-    → later ≡ number * 2 + digit_of s → (later ≡ digits_then 1 (take (i + 1) path)) × (later < 2 ^ (i + 1 + 1))
-number_more path i number later s lt side is small made =
-    let one_more : suc (i + 1) ≡ i + 1 + 1 = omega arith in
-    let below : later < 2 ^ suc (i + 1) = omega (arith, small, made, digit_below s, pow-suc 2 (i + 1)) in (
-      made ∙ ap (λ (k : ℕ). k * 2 + digit_of s) is ∙ sym (digits_then-push 1 (take i path) s)
-          ∙ ap (λ (t : Side). digits_then 1 (take i path ++ t ∷ [])) (sym (get_or_from_slice_get path i s s side)) ∙ ap (digits_then 1) (sym (take_more path i s lt)),
-      subst (λ (k : ℕ). later < 2 ^ k) one_more below,
-    )

@@ -1,45 +1,29 @@
 -- What a push and a removal do to the cells and the map of a frontier.
 use Rattle.std.proofs.Common.{◌≡◌, ◌≢◌, ℕ, ◌<◌, Bool, true, false, cond, eqb, ltb, List, [], ◌∷◌, ◌++◌, map, refl, sym, ap, subst, ◌∙◌, arith}
-use Rattle.std.specs.Ordering.{nat_cmp, is_eq}
-use Rattle.std.specs.declared.cmp.Ordering.{Ordering}
-use Rattle.std.specs.declared.cmp.Ordering.TheVariants.{Less, Equal, Greater}
-use Rattle.std.specs.BTreeMap.{BTreeMap, get, UpdatesBy, is_at}
+use Rattle.std.specs.HashMap.{get, Updates}
 use Rattle.std.specs.Map.{lookup}
 use Rattle.std.specs.declared.option.Option.{Option}
 use Rattle.std.specs.declared.option.Option.TheVariants.{Some, None}
-use Rattle.std.specs.Prelude.{OnOk, OnErr, IfNone, is_err, Ok, Err}
+use Rattle.std.specs.Prelude.{nat_eq, OnOk, OnErr, IfNone, is_err, Ok, Err}
 use Rattle.std.specs.declared.result.Result.{Result}
 use Rattle.std.proofs.lemmas.List.{map-append}
-use Rattle.std.proofs.lemmas.Bool.{ne_eqb, ltb-true}
 use Rattle.srs_path.specs.declared.paths.Side.{Side}
 use Rattle.srs_front.specs.Walks.{item_at, without_slot, DoSlotsDiffer}
 use Rattle.srs_tree.specs.Queue.{WaitingCell, without}
-use Rattle.srs_atlas.specs.Frontiers.{cells_of, number_at, slot_with, LacksPath, DoPathsDiffer, AreSlotsOf}
+use Rattle.srs_atlas.specs.Frontiers.{Slots, cells_of, number_at, slot_with, LacksPath, DoPathsDiffer, AreSlotsOf}
 use Rattle.srs_atlas.proofs.FrontierLemmas.{Cells, slot_with-push, slot_with-without, are_matched, cells-without, none_found, without_pushed, differ_push, differ_without}
 
--- the test of a number
-is_eq-nat_cmp : (a b : ℕ) → is_eq (nat_cmp a b) ≡ eqb a b
-is_eq-nat_cmp a b = by (ltb a b) refl
-  where
-    equal : (e : Bool) → is_eq (cond e Equal Greater) ≡ e
-    equal true = refl
-    equal false = refl
-
-    by : (l : Bool) → ltb a b ≡ l → is_eq (cond l Less (cond (eqb a b) Equal Greater)) ≡ eqb a b
-    by true e = let lt : a < b = ltb-true a b e in sym (ne_eqb a b (λ q. absurd (omega (arith, lt, q))))
-    by false e = equal (eqb a b)
-
 -- the same map
-same_get : (slots later : BTreeMap ℕ ℕ) → later.entries ≡ slots.entries → (k : ℕ) → get nat_cmp later k ≡ get nat_cmp slots k
-same_get slots later same k = ap (lookup (is_at (nat_cmp k))) same
+same_get : (slots later : Slots) → later.entries ≡ slots.entries → (k : ℕ) → get nat_eq later k ≡ get nat_eq slots k
+same_get slots later same k = ap (lookup (nat_eq k)) same
 
 -- a map after a change at the number
-changed_get : (slots later : BTreeMap ℕ ℕ) (number : ℕ) (w : Option ℕ) → UpdatesBy nat_cmp (nat_cmp number) slots later w → (k : ℕ) → get nat_cmp later k ≡ cond (eqb number k) w (get nat_cmp slots k)
-changed_get slots later number w updates k = updates.0 k ∙ ap (λ (b : Bool). cond b w (get nat_cmp slots k)) (is_eq-nat_cmp number k)
+changed_get : (slots later : Slots) (number : ℕ) (w : Option ℕ) → Updates nat_eq slots later number w → (k : ℕ) → get nat_eq later k ≡ cond (eqb number k) w (get nat_eq slots k)
+changed_get slots later number w updates k = updates.0 k
 
-module _ (slots later : BTreeMap ℕ ℕ) (list : Cells) (are : AreSlotsOf slots list) where
+module _ (slots later : Slots) (list : Cells) (are : AreSlotsOf slots list) where
   pub pushed : (more : Cells) (slot number : ℕ) (cell : WaitingCell) → LacksPath cell.path (cells_of list) → number ≡ number_at cell.path → more ≡ list ++ (slot, cell) ∷ []
-      → UpdatesBy nat_cmp (nat_cmp number) slots later (Some slot) → AreSlotsOf later more × (cells_of more ≡ cells_of list ++ cell ∷ [])
+      → Updates nat_eq slots later number (Some slot) → AreSlotsOf later more × (cells_of more ≡ cells_of list ++ cell ∷ [])
   pushed more slot number cell lacks is made updates =
       let seen : cells_of more ≡ cells_of list ++ cell ∷ [] = ap cells_of made ∙ map-append (λ (p : ℕ × WaitingCell). p.1) list ((slot, cell) ∷ []) in (
         record {
@@ -61,8 +45,8 @@ module _ (slots later : BTreeMap ℕ ℕ) (list : Cells) (are : AreSlotsOf slots
         ap cells_of is,
       )
 
-  pub gone : (less : Cells) (slot number : ℕ) (path : List Side) → DoSlotsDiffer list → number ≡ number_at path → get nat_cmp slots number ≡ Some slot
-      → UpdatesBy nat_cmp (nat_cmp number) slots later None → less ≡ without_slot slot list → AreSlotsOf later less × (cells_of less ≡ without path (cells_of list))
+  pub gone : (less : Cells) (slot number : ℕ) (path : List Side) → DoSlotsDiffer list → number ≡ number_at path → get nat_eq slots number ≡ Some slot
+      → Updates nat_eq slots later number None → less ≡ without_slot slot list → AreSlotsOf later less × (cells_of less ≡ without path (cells_of list))
   gone less slot number path differ is found updates out =
       let there : slot_with list (number_at path) ≡ Some slot = ap (slot_with list) (sym is) ∙ sym (are.exactly number) ∙ found in
       let matched = are_matched list path slot there differ are.once in
@@ -75,7 +59,7 @@ module _ (slots later : BTreeMap ℕ ℕ) (list : Cells) (are : AreSlotsOf slots
         seen,
       )
 
-  pub nothing : (number : ℕ) (path : List Side) → number ≡ number_at path → get nat_cmp slots number ≡ None → later.entries ≡ slots.entries
+  pub nothing : (number : ℕ) (path : List Side) → number ≡ number_at path → get nat_eq slots number ≡ None → later.entries ≡ slots.entries
       → AreSlotsOf later list × (cells_of list ≡ without path (cells_of list))
   nothing number path is none same = (
     record { exactly = λ k. same_get slots later same k ∙ are.exactly k; once = are.once },

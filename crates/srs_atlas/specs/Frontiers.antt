@@ -1,8 +1,9 @@
 -- The cells that wait in a linked list, and the map to their slots.
-use Rattle.std.specs.Prelude.{◌≡◌, ◌≢◌, ⊤, ℕ, List, [], ◌∷◌, map, ◌==◌, if◌then◌else◌, Some, None}
+use Rattle.std.specs.Prelude.{◌≡◌, ◌≢◌, ⊤, ℕ, List, [], ◌∷◌, map, nat_eq, ◌==◌, if◌then◌else◌, Some, None}
 use Rattle.std.specs.List.{AllByRecursion}
-use Rattle.std.specs.Ordering.{nat_cmp}
-use Rattle.std.specs.BTreeMap.{BTreeMap, get}
+use Rattle.std.specs.HashMap.{HashMap, get}
+use Rattle.std.specs.declared.hash.BuildHasherDefault.{BuildHasherDefault}
+use Rattle.std.specs.declared.hash.FoldHasher.{FoldHasher}
 use Rattle.std.specs.declared.option.Option.{Option}
 use Rattle.srs_path.specs.declared.paths.Side.{Side}
 use Rattle.srs_path.specs.Paths.{digits_then}
@@ -15,6 +16,10 @@ cells_of list = map (λ p. p.1) list
 -- the number of the cell at the path, where the root has 1, and the parts of the cell k have 2k and 2k + 1
 abbrev pub number_at : List Side → ℕ
 number_at path = digits_then 1 path
+
+-- slots by the numbers of cells
+abbrev pub Slots : Type 0
+Slots = HashMap ℕ ℕ (BuildHasherDefault FoldHasher)
 
 -- the slot of the cell with this number, if there is one
 abbrev pub slot_with : List (ℕ × WaitingCell) → ℕ → Option ℕ
@@ -36,8 +41,8 @@ DoPathsDiffer [] = ⊤
 DoPathsDiffer (c ∷ cells) = LacksPath c.path cells × DoPathsDiffer cells
 
 -- the map has the slot of each cell of the list, by the cell's number, and no others; and each path has one cell
-pub record AreSlotsOf (slots : BTreeMap ℕ ℕ) (list : List (ℕ × WaitingCell)) : Type 0 where
-  pub exactly : (number : ℕ) → get nat_cmp slots number ≡ slot_with list number
+pub record AreSlotsOf (slots : Slots) (list : List (ℕ × WaitingCell)) : Type 0 where
+  pub exactly : (number : ℕ) → get nat_eq slots number ≡ slot_with list number
   pub once : DoPathsDiffer (cells_of list)
 
 -- two paths or none, as a list

@@ -1,16 +1,15 @@
 // The cells that wait for an event, in their order.
-ghost use Rattle.std.specs.Prelude.{◌≡◌, ◌<◌, ◌≤◌, ◌^◌, [], ◌∷◌, ◌++◌, length, map, IfOk, OnOk, OnErr};
-ghost use Rattle.srs_path.specs.Paths.{digit_of, digits_then};
+ghost use Rattle.std.specs.Prelude.{◌≡◌, ◌<◌, [], ◌∷◌, ◌++◌, map, IfOk, OnOk, OnErr};
 ghost use Rattle.srs_tree.specs.Queue.{cells_from, without};
 ghost use Rattle.srs_atlas.specs.Frontiers.{cells_of, LacksPath, LackPaths, paths_from, without_paths};
 
 use crate::lists::shared_cell;
 use srs_front::Front;
 use srs_num::{NoMemory, Steps};
-use srs_path::{Path, Side};
+use srs_path::Path;
 use srs_tree::{Pending, PendingList};
 use std::alloc::Global;
-use std::collections::BTreeMap;
+use std::collections::HashMap;
 use std::marker::{Brand, Model};
 use std::sync::ledger::{Blank, Ledger};
 
@@ -19,7 +18,7 @@ use std::sync::ledger::{Blank, Ledger};
 #[derive(Drop)]
 pub(crate) struct Frontier {
     cells: Front<Pending>,
-    slots: BTreeMap<u64, u64>,
+    slots: HashMap<u64, u64>,
 }
 
 impl Model for Frontier {
@@ -45,7 +44,7 @@ impl Frontier {
     {
         Frontier {
             cells: Front::new(alloc),
-            slots: BTreeMap::new(alloc),
+            slots: HashMap::new(alloc),
         }
     }
 
@@ -67,7 +66,7 @@ impl Frontier {
         ensures err { OnErr result (self.new ≡ self.old) }
     {
         let mut steps = Steps::<L>::new(blank);
-        let number = number_of(&cell.path);
+        let number = cell.path.number();
         let Ok(slot) = self.cells.push_back(cell, &mut steps) else {
             return Err(NoMemory);
         };
@@ -121,7 +120,7 @@ impl Frontier {
         ensures { self.new ≡ without path.now self.old }
     {
         let mut steps = Steps::<L>::new(blank);
-        if let Some(slot) = self.slots.remove(&number_of(path)) {
+        if let Some(slot) = self.slots.remove(&path.number()) {
             let _ = self.cells.unlink(slot, &mut steps);
         }
     }
@@ -155,26 +154,4 @@ fn walked(alloc: Global, cells: &Front<Pending>) -> Result<Vec<Pending>, NoMemor
         slot = cells.next(at);
     }
     Ok(list)
-}
-
-// The number of the cell at the path, where the root has the number 1, and the parts of the cell k
-// have 2k and 2k + 1.
-fn number_of(path: &Path) -> u64
-    ensures { result ≡ digits_then 1 path.now }
-{
-    let mut number = 1;
-    for i in 0..path.len() {
-        number = number * 2 + digit(path.side(i));
-    }
-    number
-}
-
-// The digit of a side.
-fn digit(side: Side) -> u64
-    ensures { result ≡ digit_of side }
-{
-    match side {
-        Side::Ge => 0,
-        Side::Lt => 1,
-    }
 }

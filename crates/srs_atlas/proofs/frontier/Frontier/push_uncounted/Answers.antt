@@ -1,8 +1,7 @@
 -- The cell comes last, with its entry; or both stay away.
 use Rattle.std.proofs.Common.{◌≡◌, ◌∙◌, sym, ap, subst, ℕ, List, [], ◌∷◌, ◌++◌, true, false}
-use Rattle.std.specs.Prelude.{is_err}
-use Rattle.std.specs.BTreeMap.{IsUnchanged, Updates}
-use Rattle.std.specs.Ordering.{nat_cmp}
+use Rattle.std.specs.Prelude.{nat_eq, is_err}
+use Rattle.std.specs.HashMap.{IsUnchanged, Updates}
 use Rattle.std.specs.declared.option.Option.TheVariants.{Some}
 use Rattle.srs_front.specs.Walks.{HasSlot}
 use Rattle.srs_tree.specs.Queue.{WaitingCell}
@@ -39,6 +38,6 @@ invariant_of-self-else-is_err g c =
     let made : c.push_back.new.self ≡ f.cells ++ (c.in-Ok.slot, c.args.cell) ∷ [] = cc (c.in-Ok.ensures.last) in
     let went : is_err c.insert.result ≡ false = cc in
     let lacks = subst (λ (cs : List WaitingCell). LacksPath c.args.cell.path cs) (sym c.self.view_is) c.requires.other in
-    (pushed f.slots c.insert.new.self f.cells c.self.invariant c.push_back.new.self c.in-Ok.slot c.number_of-number.result c.args.cell lacks
-    (c.number_of-number.ensures ∙ ap (λ (w : WaitingCell). number_at w.path) c.cell.view_is) made
-    (on_ok c.insert.result (Updates nat_cmp f.slots c.insert.new.self c.number_of-number.result (Some c.in-Ok.slot)) c.insert.ensures.updates went)).0
+    (pushed f.slots c.insert.new.self f.cells c.self.invariant c.push_back.new.self c.in-Ok.slot c.number-number.result c.args.cell lacks
+    (c.number-number.ensures ∙ ap (λ (w : WaitingCell). number_at w.path) c.cell.view_is) made
+    (on_ok c.insert.result (Updates nat_eq f.slots c.insert.new.self c.number-number.result (Some c.in-Ok.slot)) c.insert.ensures.updates went)).0
