@@ -92,6 +92,18 @@ dot_steps a b c p q d ha hb hc hp hq hd =
       all = fits.all;
     }
 
+-- what a word of the width w holds of two factors and of their product
+pub record HeldFactors (w : Width) (x y : ℤ) : Type 0 where
+  pub fits : FitsSigned w (held w x *ℤ held w y)
+  pub value : held w (held w x *ℤ held w y) ≡ x *ℤ y
+
+pub held_factors : (w : Width) (x y : ℤ) (m n : ℕ) → IsWithin m x → IsWithin n y → m < 2 ^ hbits w → n < 2 ^ hbits w → m * n < 2 ^ hbits w → HeldFactors w x y
+held_factors w x y m n hx hy lm ln lt =
+    let first : FitsSigned w x = small_fits w x m hx lm in
+    let second : FitsSigned w y = small_fits w y n hy ln in
+    let product : FitsSigned w (x *ℤ y) = small_fits w (x *ℤ y) (m * n) (within_product x y m n hx hy) lt in
+    record { fits = simp to_z-of_z product; value = simp to_z-of_z }
+
 -- what 128 bits hold of the product of two numbers of 64 bits
 abbrev pub wide_product : ℤ → ℤ → ℤ
 wide_product x y = held w128 (held w128 (held w64 x) *ℤ held w128 (held w64 y))
@@ -99,12 +111,8 @@ wide_product x y = held w128 (held w128 (held w64 x) *ℤ held w128 (held w64 y)
 -- the product of two numbers of a form is held
 wide_product_is : (x y : ℤ) → IsWithin (2 ^ 38) x → IsWithin (2 ^ 38) y → wide_product x y ≡ x *ℤ y
 wide_product_is x y hx hy =
-    let x64 : FitsSigned w64 x = small_fits w64 x _ hx (lit< tt) in
-    let y64 : FitsSigned w64 y = small_fits w64 y _ hy (lit< tt) in
-    let x128 : FitsSigned w128 x = small_fits w128 x _ hx (lit< tt) in
-    let y128 : FitsSigned w128 y = small_fits w128 y _ hy (lit< tt) in
-    let product : FitsSigned w128 (x *ℤ y) = small_fits w128 (x *ℤ y) _ (within_product x y (2 ^ 38) (2 ^ 38) hx hy) (lit< tt) in
-    simp to_z-of_z
+    rw (to_z-of_z w64 x (small_fits w64 x _ hx (lit< tt)), to_z-of_z w64 y (small_fits w64 y _ hy (lit< tt)))
+    (held_factors w128 x y (2 ^ 38) (2 ^ 38) hx hy (lit< tt) (lit< tt) (lit< tt)).value
 
 -- a difference of two products of numbers of a form is held by 128 bits
 pub record HeldMinor (a b c d : ℤ) : Type 0 where

@@ -1,9 +1,9 @@
 -- The numbers of vertices are small, and so are the numbers of their lines.
-use Rattle.std.proofs.Common.{◌≡◌, ◌*◌, ◌^◌, ◌<◌, ℕ, ℤ, pos, neg_ℤ, ◌+ℤ◌, ◌-ℤ◌, ◌*ℤ◌, ◌≤ℤ◌, FitsSigned, w64, arith, lit<}
+use Rattle.std.proofs.Common.{◌≡◌, ◌^◌, ℤ, pos, neg_ℤ, ◌+ℤ◌, ◌-ℤ◌, ◌*ℤ◌, ◌≤ℤ◌, FitsSigned, w64, arith, lit<}
 use Rattle.std.proofs.lemmas.Int.{ints, to_z-of_z}
 use Rattle.srs_num.specs.Points.{Point, LinearForm, IsFormSized, IsWithin}
 use Rattle.srs_num.specs.Lines.{edge_form}
-use Rattle.srs_num.proofs.Ranges.{held, within_product, within_sum, within_difference, small_fits}
+use Rattle.srs_num.proofs.Ranges.{held, held_factors, within_product, within_sum, within_difference, small_fits}
 use Rattle.srs_plane.specs.declared.polygons.Vertex.{Vertex}
 use Rattle.srs_plane.specs.Placed.{IsPlaced}
 
@@ -39,25 +39,13 @@ pub record HeldDot (a b c p q d : ℤ) : Type 0 where
   pub all : FitsSigned w64 (held w64 (short_product a p +ℤ short_product b q) +ℤ short_product c d)
   pub value : held w64 (held w64 (short_product a p +ℤ short_product b q) +ℤ short_product c d) ≡ a *ℤ p +ℤ b *ℤ q +ℤ c *ℤ d
 
--- two factors whose product 64 bits hold
-record HeldFactors (x y : ℤ) : Type 0 where
-  fits : FitsSigned w64 (held w64 x *ℤ held w64 y)
-  value : short_product x y ≡ x *ℤ y
-
-held_factors : (x y : ℤ) (m n : ℕ) → IsWithin m x → IsWithin n y → m < 2 ^ 63 → n < 2 ^ 63 → m * n < 2 ^ 63 → HeldFactors x y
-held_factors x y m n hx hy lm ln lt =
-    let x64 : FitsSigned w64 x = small_fits w64 x m hx lm in
-    let y64 : FitsSigned w64 y = small_fits w64 y n hy ln in
-    let product : FitsSigned w64 (x *ℤ y) = small_fits w64 (x *ℤ y) (m * n) (within_product x y m n hx hy) lt in
-    record { fits = simp to_z-of_z product; value = simp to_z-of_z }
-
 -- those of a form and a vertex
 pub held_dot : (f : LinearForm) (v : Vertex) → IsFormSized f → IsPlaced v → HeldDot f.a f.b f.c v.p v.q v.d
 held_dot f v sized placed =
     let near = small v placed in
-    let x = held_factors f.a v.p (2 ^ 38) (2 ^ 18) sized.a_range near.p_range (lit< tt) (lit< tt) (lit< tt) in
-    let y = held_factors f.b v.q (2 ^ 38) (2 ^ 18) sized.b_range near.q_range (lit< tt) (lit< tt) (lit< tt) in
-    let z = held_factors f.c v.d (2 ^ 38) (2 ^ 18) sized.c_range near.d_range (lit< tt) (lit< tt) (lit< tt) in
+    let x = held_factors w64 f.a v.p (2 ^ 38) (2 ^ 18) sized.a_range near.p_range (lit< tt) (lit< tt) (lit< tt) in
+    let y = held_factors w64 f.b v.q (2 ^ 38) (2 ^ 18) sized.b_range near.q_range (lit< tt) (lit< tt) (lit< tt) in
+    let z = held_factors w64 f.c v.d (2 ^ 38) (2 ^ 18) sized.c_range near.d_range (lit< tt) (lit< tt) (lit< tt) in
     let size = within_sum (f.a *ℤ v.p) (f.b *ℤ v.q) _ _ (within_product f.a v.p (2 ^ 38) (2 ^ 18) sized.a_range near.p_range) (within_product f.b v.q (2 ^ 38) (2 ^ 18) sized.b_range near.q_range) in
     let two : FitsSigned w64 (f.a *ℤ v.p +ℤ f.b *ℤ v.q) = small_fits w64 _ _ size (lit< tt) in
     let all : FitsSigned w64 (f.a *ℤ v.p +ℤ f.b *ℤ v.q +ℤ f.c *ℤ v.d) =
@@ -79,8 +67,8 @@ pub record HeldVertexMinor (a b c d : ℤ) : Type 0 where
 
 pub held_vertex_minor : (a b c d : ℤ) → IsWithin (2 ^ 18) a → IsWithin (2 ^ 18) b → IsWithin (2 ^ 18) c → IsWithin (2 ^ 18) d → HeldVertexMinor a b c d
 held_vertex_minor a b c d ha hb hc hd =
-    let x = held_factors a d (2 ^ 18) (2 ^ 18) ha hd (lit< tt) (lit< tt) (lit< tt) in
-    let y = held_factors b c (2 ^ 18) (2 ^ 18) hb hc (lit< tt) (lit< tt) (lit< tt) in
+    let x = held_factors w64 a d (2 ^ 18) (2 ^ 18) ha hd (lit< tt) (lit< tt) (lit< tt) in
+    let y = held_factors w64 b c (2 ^ 18) (2 ^ 18) hb hc (lit< tt) (lit< tt) (lit< tt) in
     let size : IsWithin (2 ^ 37) (a *ℤ d -ℤ b *ℤ c) =
     within_difference (a *ℤ d) (b *ℤ c) _ _ (within_product a d (2 ^ 18) (2 ^ 18) ha hd) (within_product b c (2 ^ 18) (2 ^ 18) hb hc) in
     let all : FitsSigned w64 (a *ℤ d -ℤ b *ℤ c) = small_fits w64 _ _ size (lit< tt) in
