@@ -8,9 +8,9 @@ use Rattle.srs_num.specs.Points.{LinearForm, IsWithin}
 use Rattle.srs_num.specs.Floor.{IsFloor}
 use Rattle.srs_num.proofs.Ranges.{held, small_fits, within_sum, within_difference, within_product, within_turned}
 use Rattle.srs_plane.specs.Regions.{Area}
-use Rattle.srs_cell.specs.Floors.{IsRatioWithin, AreFloorsOf, AreLeastFloors}
+use Rattle.srs_cell.specs.Floors.{IsRatioWithin, AreFloorsOf, AreLeastFloors, IsLesserFloor, AreLessened}
 use Rattle.srs_cell.specs.declared.floors.Floors.{Floors}
-use Rattle.srs_cell.proofs.Lessening.{turned, read_lt, read_ge, floors_of, quotient_floor, floor_range, whole_back, broken_back}
+use Rattle.srs_cell.proofs.Lessening.{turned, turned_ratio, turned_fits, read_lt, read_ge, floors_of, quotient_floor, floor_range, whole_back, broken_back}
 
 -- what 64 bits hold of a whole number, of it negated, and of one less than that
 record HeldTurned (k : ℤ) : Type 0 where
@@ -81,6 +81,27 @@ cast_floor n d k fn fd near is =
     let short : FitsSigned w64 k = small_fits w64 k (2 ^ 40) range (lit< tt) in
     let same : held w64 (held w128 k) ≡ k = simp to_z-of_z in
     record { fits = simp to_z-of_z short; floor = rw same floor; range = rw same range }
+
+-- a quotient turned, as a word of the width w holds it
+pub record HeldOpposite (w : Width) (m : ℕ) (n d : ℤ) : Type 0 where
+  pub near : IsRatioWithin m (held w (pos 0 -ℤ held w n)) (held w d)
+  pub value : held w (pos 0 -ℤ held w n) ≡ neg_ℤ n
+
+pub held_opposite : (w : Width) (m s : ℕ) (n d : ℤ) → FitsSigned w n → FitsSigned w d → IsRatioWithin m n d → IsWithin s d → m * s < 2 ^ hbits w → HeldOpposite w m n d
+held_opposite w m s n d fn fd near size ls =
+    let fits : FitsSigned w (pos 0 -ℤ n) = turned_fits w m s n d near size ls in
+    let value : held w (pos 0 -ℤ held w n) ≡ neg_ℤ n = rw (to_z-of_z w n fn, to_z-of_z w _ fits) (turned n) in
+    record { near = rw (value, to_z-of_z w d fd) (turned_ratio m n d near); value = value }
+
+-- both floors lessened, as words hold them
+pub held_lessened : (w : Width) (m s : ℕ) (n d : ℤ) (old : Floors) (x y : ℤ) → FitsSigned w n → FitsSigned w d → IsRatioWithin m n d → IsWithin s d → m * s < 2 ^ hbits w → m < 2 ^ 63
+    → IsWithin m old.ahead → IsWithin m old.back → IsLesserFloor m (held w n) (held w d) (held w64 old.ahead) x → IsLesserFloor m (held w (pos 0 -ℤ held w n)) (held w d) (held w64 old.back) y
+    → AreLessened m n d old (record { ahead = held w64 x; back = held w64 y })
+held_lessened w m s n d old x y fn fd near size ls lm a_range b_range first second =
+    let opposite = held_opposite w m s n d fn fd near size ls in
+    let ahead : IsLesserFloor m n d old.ahead x = rw (to_z-of_z w n fn, to_z-of_z w d fd, to_z-of_z w64 old.ahead (small_fits w64 _ m a_range lm)) at first in
+    let back : IsLesserFloor m (neg_ℤ n) d old.back y = rw (opposite.value, to_z-of_z w d fd, to_z-of_z w64 old.back (small_fits w64 _ m b_range lm)) at second in
+    rw (to_z-of_z w64 x (small_fits w64 x m ahead.range lm), to_z-of_z w64 y (small_fits w64 y m back.range lm)) (record { ahead = ahead; back = back })
 
 -- the ends of a span as 64 bits hold them, by two least floors
 pub record HeldEnds (floors : Floors) : Type 0 where
