@@ -3,7 +3,7 @@ use Rattle.std.proofs.Common.{◌≡◌, List, get_or, ℤ, pos, neg_ℤ, ◌+�
 use Rattle.std.proofs.lemmas.Int.{by_lt_z}
 use Rattle.std.proofs.lemmas.List.Elements.{All-weaker, All-from_recursion}
 use Rattle.srs_num.specs.Points.{Point, LinearForm, value, IsNear}
-use Rattle.srs_num.proofs.Linear.{linear, mul_one, mul_nonneg, mul_pos}
+use Rattle.srs_num.proofs.Linear.{linear, nonneg_of_positive, mul_one, mul_nonneg, mul_pos}
 use Rattle.srs_num.proofs.Combinations.{mix}
 use Rattle.srs_num.proofs.Identities.{value-mix, mix-d}
 use Rattle.srs_num.proofs.Ring.{lit, ◌⊕◌, ◌⊖◌, ◌⊗◌, v, minus, ring}
@@ -35,7 +35,7 @@ pub mix_in : (R : Area) (k l : ℤ) (c s : Point) → pos 0 ≤ℤ k → pos 0 <
 mix_in R k l c s hk hl c_in s_in =
     let m = mix k c l s in
     record {
-      is_point = deep _ _ _ (mix-d k l c s) (mul_nonneg k c.d hk (least _ c_in.is_point)) (mul_pos l s.d hl (above _ s_in.is_point));
+      is_point = deep _ _ _ (mix-d k l c s) (mul_nonneg k c.d hk (nonneg_of_positive _ c_in.is_point)) (mul_pos l s.d hl (above _ s_in.is_point));
       halves = all_by_recursion (λ h. IsInHalf h m) R (λ i d lt.
           let h = get_or R i d in
           asks_mix h.kind k l _ _ _ (value-mix k l h.form c s) hk hl
@@ -43,9 +43,6 @@ mix_in R k l c s hk hl c_in s_in =
           (All-from_recursion (λ h. IsInHalf h s) R s_in.halves i d lt));
     }
   where
-    least : (a : ℤ) → pos 1 ≤ℤ a → pos 0 ≤ℤ a
-    least a h = omega (arith, linear)
-
     above : (a : ℤ) → pos 1 ≤ℤ a → pos 0 <ℤ a
     above a h = omega (arith, linear)
 

@@ -1,5 +1,5 @@
 -- Counting the corners on each side of a line.
-use Rattle.std.proofs.Common.{◌≡◌, ℕ, ◌+◌, ◌≤◌, List, [], ◌∷◌, ◌++◌, length-append, ℤ, pos, neg_ℤ, ◌≤ℤ◌, ◌<ℤ◌, All, arith, zero, suc}
+use Rattle.std.proofs.Common.{◌≡◌, ℕ, ◌+◌, ◌≤◌, List, [], ◌∷◌, ◌++◌, length-append, ℤ, pos, neg_ℤ, ◌≤ℤ◌, ◌<ℤ◌, arith, zero, suc}
 use Rattle.std.specs.List.{Contains}
 use Rattle.std.proofs.lemmas.Int.{by_lt_z}
 use Rattle.std.proofs.lemmas.List.Elements.{All-nil, All-push, All-weaker, Contains-append_left, Contains-push, All-contains}
@@ -135,13 +135,6 @@ module _ (g : LinearForm) (cs : List Point) (t : Tally) (k : IsTally g cs t) whe
       by : (a o : ℕ) → 1 ≤ a + o → (1 ≤ a → (c : Point) × Contains cs c × (pos 0 <ℤ value g c)) → (1 ≤ o → (c : Point) × Contains cs c × (value g c ≡ pos 0)) → ⊥
       by zero o h up on = let s = on (omega (arith, h)) in not_below_on _ s.2 (All-contains (λ c. value g c <ℤ pos 0) cs s.0 low s.1)
       by (suc a) o h up on = let s = up (omega arith) in not_both _ s.2 (All-contains (λ c. value g c <ℤ pos 0) cs s.0 low s.1)
-
-  -- no corner is above
-  pub none_above : t.above ≡ 0 → All (λ c. value g c ≤ℤ pos 0) cs
-  none_above e = All-weaker (λ c. pos 0 <ℤ value g c → ⊥) (λ c. value g c ≤ℤ pos 0) (λ c n. not_above _ n) cs (k.above.none e)
-    where
-      not_above : (a : ℤ) → (pos 0 <ℤ a → ⊥) → a ≤ℤ pos 0
-      not_above a n = by_lt_z (pos 0) a (λ h. absurd (n h)) (λ h. h)
 
 pub same_zero : (a b : ℤ) → a ≡ b → a ≡ pos 0 → b ≡ pos 0
 same_zero a b e h = omega (arith, linear)

@@ -1,5 +1,5 @@
 -- The ways in which a cut ends.
-use Rattle.std.proofs.Common.{◌≡◌, ◌+◌, ◌^◌, ◌≤◌, List, [], ◌∷◌, ◌++◌, length, length-append, get_or, pos, ◌≤ℤ◌, ◌<ℤ◌, All, Some, refl, arith}
+use Rattle.std.proofs.Common.{◌≡◌, ◌+◌, ◌^◌, ◌≤◌, List, [], ◌∷◌, ◌++◌, map, length, length-append, get_or, pos, ◌≤ℤ◌, ◌<ℤ◌, All, Some, refl, arith}
 use Rattle.std.proofs.lemmas.List.Elements.{All-nil, All-cons, All-push, All-pop, All-head, All-tail}
 use Rattle.srs_num.specs.Points.{LinearForm, Point, value, opposite, IsPointWithin}
 use Rattle.srs_num.specs.Lines.{meet}
@@ -8,7 +8,12 @@ use Rattle.srs_cell.specs.Cutting.{IsEndAt, IsKept, IsPart}
 use Rattle.srs_cell.proofs.Section.{in_more, in_front, in_last, clip_is_hull}
 use Rattle.srs_cell.proofs.Signs.{both_signs}
 use Rattle.srs_cell.proofs.Extremes.{all_below}
-use Rattle.srs_cell.proofs.Boxed.{IsBoxed, boxed_end, boxed_end_opposite}
+use Rattle.srs_cell.proofs.Boxed.{IsBoxed, box-IsBoxed, boxed_end, boxed_end_opposite}
+use Rattle.srs_plane.specs.Regions.{Area}
+use Rattle.srs_cell.specs.Corners.{boxed, AreCorners}
+use Rattle.srs_cell.specs.Tallies.{IsTally}
+use Rattle.srs_cell.specs.declared.tallies.Tally.{Tally}
+use Rattle.srs_cell.proofs.Counting.{some_below, not_all_below}
 
 in_turned : (hs : List LinearForm) (g : LinearForm) (z : Point) → IsInHalves (g ∷ hs) z → IsInHalves (hs ++ g ∷ []) z
 in_turned hs g z i =
@@ -86,3 +91,8 @@ cut_of hs cs us g hull sized box k not_all some =
     none_there : (ns : List Point) → ns ≡ [] → IsAbove g ns
     none_there [] e = All-nil (λ c. pos 0 ≤ℤ value g c)
     none_there (n ∷ ns) e = cc
+
+-- the same of the corners of a region, by their tally
+pub region_cut : (R : Area) (cs us : List Point) (g : LinearForm) (t : Tally) → AreCorners R cs → IsKept g cs us → IsTally g cs t → 1 ≤ t.above + t.on → 1 ≤ t.below → IsCut (boxed R) cs g us
+region_cut R cs us g t corners kept tally some below =
+    cut_of (boxed R) cs us g corners.hull corners.sized (box-IsBoxed (map (λ h. h.form) R)) kept (some_below g cs t tally below) (not_all_below g cs t tally some)

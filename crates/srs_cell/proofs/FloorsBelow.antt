@@ -6,7 +6,7 @@ use Rattle.std.proofs.lemmas.List.Elements.{All-nil, All-more, All-take, All-con
 use Rattle.srs_num.specs.declared.pairs.V2.{V2}
 use Rattle.srs_num.specs.Points.{Point, LinearForm, value, opposite, IsPoint, IsNear, IsWithin, IsPointWithin}
 use Rattle.srs_num.specs.Floor.{IsFloor}
-use Rattle.srs_num.proofs.Linear.{linear, mul_mono}
+use Rattle.srs_num.proofs.Linear.{linear, nonneg_of_positive, mul_mono}
 use Rattle.srs_num.proofs.Ranges.{within_product, within_sum}
 use Rattle.srs_num.proofs.Identities.{value-opposite}
 use Rattle.srs_map.proofs.FormStep.{value-flat}
@@ -43,9 +43,6 @@ corner_ratio m s cs w c n d near sized a b among en ed =
       subst (IsWithin s) (sym ed) z.d_range,
     )
 
-at_least : (a : ℤ) → pos 1 ≤ℤ a → pos 0 ≤ℤ a
-at_least a h = omega (arith, linear)
-
 through : (a b c : ℤ) → a ≤ℤ b → b ≤ℤ c → a ≤ℤ c
 through a b c h k = omega (arith, linear)
 
@@ -68,7 +65,7 @@ module _ (m : ℕ) (f : LinearForm) (cs : List Point) where
     one_more : (g : LinearForm) (n least k : ℤ) → n ≡ value g c → IsFloorBelow g cs (take i cs) least → IsLesserFloor m n c.d least k → IsFloorBelow g cs (take (i + 1) cs) k
     one_more g n least k e b l = record {
       bound = All-more (λ x. (k *ℤ x.d) ≤ℤ value g x) cs i c lt
-          (λ j d jt. through _ _ _ (mul_mono k least (get_or (take i cs) j d).d (at_least _ (All-take (IsPointWithin M) i cs sized j d jt).is_point) l.not_more) (b.bound j d jt))
+          (λ j d jt. through _ _ _ (mul_mono k least (get_or (take i cs) j d).d (nonneg_of_positive _ (All-take (IsPointWithin M) i cs sized j d jt).is_point) l.not_more) (b.bound j d jt))
           (rw (sym read) (subst (λ x. (k *ℤ c.d) ≤ℤ x) e l.not_above));
       taken = elim l.taken [
         | inl s ↦ subst (λ x. (z : Point) × Contains cs z × (value g z <ℤ (x *ℤ z.d +ℤ z.d))) (sym s) b.taken

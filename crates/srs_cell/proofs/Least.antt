@@ -8,7 +8,7 @@ use Rattle.std.proofs.lemmas.Bool.{false≢true}
 use Rattle.std.proofs.lemmas.List.Elements.{All-nil, All-more, All-contains, All-take}
 use Rattle.srs_num.specs.Points.{LinearForm, Point, value, IsPointWithin}
 use Rattle.srs_num.specs.Lines.{plus}
-use Rattle.srs_num.proofs.Linear.{linear, mul_nonneg, nonneg_from}
+use Rattle.srs_num.proofs.Linear.{linear, nonneg_of_positive, mul_nonneg, nonneg_from}
 use Rattle.srs_num.proofs.Ring.{v, ◌⊕◌, ◌⊖◌, ◌⊗◌, ring}
 use Rattle.srs_num.proofs.Identities.{value-plus}
 use Rattle.srs_cell.specs.Bounds.{IsLower, IsLeast, IsLeastCorner, IsLeastSum}
@@ -22,14 +22,11 @@ not_less a b n = by_lt_z a b (λ h. absurd (n h)) (λ h. h)
 -- a/d <= b/e <= c/g
 pub quotient_through : (a d b e c g : ℤ) → pos 1 ≤ℤ d → pos 1 ≤ℤ e → pos 1 ≤ℤ g → (a *ℤ e) ≤ℤ (b *ℤ d) → (b *ℤ g) ≤ℤ (c *ℤ e) → (a *ℤ g) ≤ℤ (c *ℤ d)
 quotient_through a d b e c g hd he hg h k =
-    let first = mul_nonneg g (b *ℤ d -ℤ a *ℤ e) (at_least g hg) (gap _ _ h) in
-    let second = mul_nonneg d (c *ℤ e -ℤ b *ℤ g) (at_least d hd) (gap _ _ k) in
+    let first = mul_nonneg g (b *ℤ d -ℤ a *ℤ e) (nonneg_of_positive g hg) (gap _ _ h) in
+    let second = mul_nonneg d (c *ℤ e -ℤ b *ℤ g) (nonneg_of_positive d hd) (gap _ _ k) in
     let sum = ring (a ∷ d ∷ b ∷ e ∷ c ∷ g ∷ []) (v 5 ⊗ (v 2 ⊗ v 1 ⊖ v 0 ⊗ v 3) ⊕ v 1 ⊗ (v 4 ⊗ v 3 ⊖ v 2 ⊗ v 5)) (v 3 ⊗ (v 4 ⊗ v 1 ⊖ v 0 ⊗ v 5)) tt in
     closed _ _ (nonneg_from e _ (above e he) (add _ _ _ sum first second))
   where
-    at_least : (a : ℤ) → pos 1 ≤ℤ a → pos 0 ≤ℤ a
-    at_least a h = omega (arith, linear)
-
     above : (a : ℤ) → pos 1 ≤ℤ a → pos 0 <ℤ a
     above a h = omega (arith, linear)
 

@@ -4,7 +4,7 @@ use Rattle.std.proofs.lemmas.Int.{by_lt_z}
 use Rattle.srs_num.specs.declared.pairs.V2.{V2}
 use Rattle.srs_num.specs.Points.{LinearForm, Point, IsPoint, IsNear, IsWithin, value, opposite}
 use Rattle.srs_num.specs.Floor.{IsFloor, floor_quotient}
-use Rattle.srs_num.proofs.Linear.{linear, mul_one, mul_mono}
+use Rattle.srs_num.proofs.Linear.{linear, nonneg_of_positive, mul_one, mul_mono}
 use Rattle.srs_num.proofs.Ring.{v, lit, ◌⊖◌, ◌⊗◌, minus as less, ring}
 use Rattle.srs_num.proofs.Floors.{floor_is, floor_greatest}
 use Rattle.srs_num.proofs.Ranges.{within_more, within_opposite}
@@ -22,8 +22,12 @@ use Rattle.srs_cell.proofs.Closed.{mix_in, closed_in}
 use Rattle.srs_cell.proofs.Extremes.{middle}
 use Rattle.srs_cell.proofs.Reaching.{gap, value-gap, step_up}
 
-at_least : (a : ℤ) → pos 1 ≤ℤ a → pos 0 ≤ℤ a
-at_least a h = omega (arith, linear)
+-- a number that isn't above a negated one, and one that isn't below it, turned
+below_turned : (a b : ℤ) → a ≤ℤ neg_ℤ b → b ≤ℤ neg_ℤ a
+below_turned a b h = omega (arith, linear)
+
+above_turned : (a b : ℤ) → neg_ℤ a ≤ℤ b → neg_ℤ b ≤ℤ a
+above_turned a b h = omega (arith, linear)
 
 -- the floors of the form over the points of R go from low to high
 pub record AreFloors (R : Area) (f : LinearForm) (low high : ℤ) : Type 0 where
@@ -74,8 +78,8 @@ module _ (R : Area) (f : LinearForm) where
       inner : low <ℤ k → k <ℤ high → FloorTaken R f k
       inner after_low before_high =
           let g = gap f k in
-          let down = under _ _ _ _ _ (value-gap f k u.0) u.2.greatest (step_up low u.0.d) (mul_mono (low +ℤ pos 1) k u.0.d (at_least _ u.1.is_point) (next low k after_low)) in
-          let up = over _ _ _ _ _ w.0.d (value-gap f k w.0) w.2.not_above (step_up k w.0.d) (mul_mono (k +ℤ pos 1) high w.0.d (at_least _ w.1.is_point) (next k high before_high)) w.1.is_point in
+          let down = under _ _ _ _ _ (value-gap f k u.0) u.2.greatest (step_up low u.0.d) (mul_mono (low +ℤ pos 1) k u.0.d (nonneg_of_positive _ u.1.is_point) (next low k after_low)) in
+          let up = over _ _ _ _ _ w.0.d (value-gap f k w.0) w.2.not_above (step_up k w.0.d) (mul_mono (k +ℤ pos 1) high w.0.d (nonneg_of_positive _ w.1.is_point) (next k high before_high)) w.1.is_point in
           let z = mix (value g w.0) u.0 (neg_ℤ (value g u.0)) w.0 in
           let z_in : IsIn R z = mix_in R (value g w.0) (neg_ℤ (value g u.0)) u.0 w.0 (not_below _ up) (turned _ down) (closed_in R u.0 u.1) w.1 in
           (z, z_in, exact _ _ _ (value-gap f k z) (middle g u.0 w.0 down up) z_in.is_point)
@@ -97,27 +101,15 @@ module _ (R : Area) (w : V2) (narrow : IsNarrow w) (near : (r : Point) → IsIn 
   pub moves_are : AreMoves (LeadsTo R) w (neg_ℤ high) (neg_ℤ low)
   moves_are = record {
     each = λ j hl hh.
-        let t = floors_between R (form w.a w.b (pos 0)) low high (neg_ℤ j) floors.low_point floors.high_point (turned_high _ _ hh) (turned_low _ _ hl) in
+        let t = floors_between R (form w.a w.b (pos 0)) low high (neg_ℤ j) floors.low_point floors.high_point (below_turned _ _ hh) (above_turned _ _ hl) in
         (t.0, t.1, step_by_floor t.0 w.a w.b j t.1.is_point t.2);
     all = λ j t.
         let floor = floor_by_step t.0 w.a w.b j t.1.is_point t.2 in
-        (from_high _ _ (under_high (neg_ℤ j) t.0 t.1 floor), from_low _ _ (floor_greatest _ t.0.d low (neg_ℤ j) t.1.is_point floor (floors.least t.0 t.1)));
+        (above_turned _ _ (under_high (neg_ℤ j) t.0 t.1 floor), below_turned _ _ (floor_greatest _ t.0.d low (neg_ℤ j) t.1.is_point floor (floors.least t.0 t.1)));
     low_range = within_opposite high (2 ^ 41) high_within;
     high_range = within_opposite low (2 ^ 41) low_within;
   }
     where
-      turned_high : (j low : ℤ) → j ≤ℤ neg_ℤ low → low ≤ℤ neg_ℤ j
-      turned_high j low h = omega (arith, linear)
-
-      turned_low : (high j : ℤ) → neg_ℤ high ≤ℤ j → neg_ℤ j ≤ℤ high
-      turned_low high j h = omega (arith, linear)
-
-      from_high : (high j : ℤ) → neg_ℤ j ≤ℤ high → neg_ℤ high ≤ℤ j
-      from_high high j h = omega (arith, linear)
-
-      from_low : (low j : ℤ) → low ≤ℤ neg_ℤ j → j ≤ℤ neg_ℤ low
-      from_low low j h = omega (arith, linear)
-
       next : (a b : ℤ) → a <ℤ b → (a +ℤ pos 1) ≤ℤ b
       next a b h = omega (arith, linear)
 
@@ -127,7 +119,7 @@ module _ (R : Area) (w : V2) (narrow : IsNarrow w) (near : (r : Point) → IsIn 
       under_high : (k : ℤ) (z : Point) → IsIn R z → IsFloor (value (form w.a w.b (pos 0)) z) z.d k → k ≤ℤ high
       under_high k z z_in floor =
           by_lt_z high k
-          (λ lt. absurd (clash (value (form w.a w.b (pos 0)) z) (high *ℤ z.d) ((high +ℤ pos 1) *ℤ z.d) (k *ℤ z.d) z.d (step_up high z.d) (mul_mono (high +ℤ pos 1) k z.d (at_least _ z_in.is_point) (next high k lt)) floor.not_above (floors.most z z_in)))
+          (λ lt. absurd (clash (value (form w.a w.b (pos 0)) z) (high *ℤ z.d) ((high +ℤ pos 1) *ℤ z.d) (k *ℤ z.d) z.d (step_up high z.d) (mul_mono (high +ℤ pos 1) k z.d (nonneg_of_positive _ z_in.is_point) (next high k lt)) floor.not_above (floors.most z z_in)))
           (λ h. h)
 
 twice : (x : ℤ) → neg_ℤ (neg_ℤ x) ≡ x
@@ -137,29 +129,17 @@ twice x = omega (arith, linear)
 pub moves_back : (R : Area) (w : V2) (low high : ℤ) → AreMoves (LeadsTo R) (minus w) low high → AreMoves (LeadsBackTo R) w (neg_ℤ high) (neg_ℤ low)
 moves_back R w low high m = record {
   each = λ j hl hh.
-      let t = m.each (neg_ℤ j) (turned_high _ _ hh) (turned_low _ _ hl) in
+      let t = m.each (neg_ℤ j) (below_turned _ _ hh) (above_turned _ _ hl) in
       (t.0, t.1, ap minus t.2 ∙ ap₂ pair (twice w.b) (twice j));
   all = λ j t.
       let k = m.all (neg_ℤ j) (t.0, t.1, sym (twice_pair (step_of t.0 (minus w))) ∙ ap minus t.2) in
-      (from_high _ _ k.1, from_low _ _ k.0);
+      (above_turned _ _ k.1, below_turned _ _ k.0);
   low_range = within_opposite high (2 ^ 41) m.high_range;
   high_range = within_opposite low (2 ^ 41) m.low_range;
 }
   where
     twice_pair : (z : V2) → minus (minus z) ≡ z
     twice_pair z = ap₂ pair (twice z.a) (twice z.b)
-
-    turned_high : (j low : ℤ) → j ≤ℤ neg_ℤ low → low ≤ℤ neg_ℤ j
-    turned_high j low h = omega (arith, linear)
-
-    turned_low : (high j : ℤ) → neg_ℤ high ≤ℤ j → neg_ℤ j ≤ℤ high
-    turned_low high j h = omega (arith, linear)
-
-    from_high : (high j : ℤ) → neg_ℤ j ≤ℤ high → neg_ℤ high ≤ℤ j
-    from_high high j h = omega (arith, linear)
-
-    from_low : (low j : ℤ) → low ≤ℤ neg_ℤ j → j ≤ℤ neg_ℤ low
-    from_low low j h = omega (arith, linear)
 
 -- ---- both ends
 turned_product : (k d : ℤ) → neg_ℤ k *ℤ d ≡ neg_ℤ (k *ℤ d)
@@ -287,9 +267,6 @@ module _ (R : Area) (w : V2) (k b : ℤ) (ahead : IsLeastFloor R (form_of w) k) 
   across : (x n s y : ℤ) → s ≡ neg_ℤ y → y ≤ℤ neg_ℤ n → x ≤ℤ n → x ≤ℤ s
   across x n s y e h g = omega (arith, linear)
 
-  turned : (k j : ℤ) → k ≤ℤ neg_ℤ j → j ≤ℤ neg_ℤ k
-  turned k j h = omega (arith, linear)
-
   link_within : (j : ℤ) → LinksTo R w (pair w.b j) → (b ≤ℤ j) × (j ≤ℤ neg_ℤ k)
   link_within j l =
       let r = l.0 in
@@ -297,11 +274,11 @@ module _ (R : Area) (w : V2) (k b : ℤ) (ahead : IsLeastFloor R (form_of w) k) 
       elim (link_floor R w j r h l.2) [
         | inl f ↦ (
           factor_order b j r.d h (through _ _ _ _ (turned_product j r.d) f.not_above (back_bound r l.1)),
-          turned k j (floor_greatest _ r.d k (neg_ℤ j) h f (ahead.bound r l.1)),
+          below_turned k j (floor_greatest _ r.d k (neg_ℤ j) h f (ahead.bound r l.1)),
         )
         | inr f ↦ (
           floor_greatest _ r.d b j h f (back_bound r l.1),
-          turned k j (factor_order k (neg_ℤ j) r.d h (across _ _ _ _ (turned_product j r.d) f.not_above (ahead.bound r l.1))),
+          below_turned k j (factor_order k (neg_ℤ j) r.d h (across _ _ _ _ (turned_product j r.d) f.not_above (ahead.bound r l.1))),
         )
       ]
 
@@ -327,13 +304,10 @@ module _ (R : Area) (w : V2) (k b : ℤ) (ahead : IsLeastFloor R (form_of w) k) 
           let t = back_point R (form_of w) k b ahead back in
           let n = value (form_of w) t.0 in
           let top = floor_is n t.0.d t.1.is_point in
-          let z = floors_between R (form_of w) k (floor_quotient n t.0.d) (neg_ℤ j) (low_floor R (form_of w) k b ahead back) (t.0, t.1, top) (back_turned k j high)
-          (floor_greatest n t.0.d (neg_ℤ j) _ t.1.is_point top (reach _ _ _ (mul_mono (neg_ℤ j) (neg_ℤ b -ℤ pos 1) t.0.d (at_least _ t.1.is_point) (before b j after)) t.2)) in
+          let z = floors_between R (form_of w) k (floor_quotient n t.0.d) (neg_ℤ j) (low_floor R (form_of w) k b ahead back) (t.0, t.1, top) (below_turned j k high)
+          (floor_greatest n t.0.d (neg_ℤ j) _ t.1.is_point top (reach _ _ _ (mul_mono (neg_ℤ j) (neg_ℤ b -ℤ pos 1) t.0.d (nonneg_of_positive _ t.1.is_point) (before b j after)) t.2)) in
           (z.0, z.1, ahead_link w j z.0 z.1.is_point z.2)
         where
-          back_turned : (k j : ℤ) → j ≤ℤ neg_ℤ k → k ≤ℤ neg_ℤ j
-          back_turned k j h = omega (arith, linear)
-
           before : (b j : ℤ) → b <ℤ j → neg_ℤ j ≤ℤ (neg_ℤ b -ℤ pos 1)
           before b j h = omega (arith, linear)
 

@@ -6,14 +6,11 @@ use Rattle.std.specs.Int.Signed.{lt_z}
 use Rattle.std.proofs.lemmas.Int.{by_lt_z, ints}
 use Rattle.srs_num.specs.Points.{IsWithin}
 use Rattle.srs_num.specs.Floor.{IsFloor}
-use Rattle.srs_num.proofs.Linear.{linear, mul_mono}
+use Rattle.srs_num.proofs.Linear.{linear, nonneg_of_positive, mul_mono}
 use Rattle.srs_num.proofs.Ring.{v, lit, ◌⊖◌, ◌⊗◌, minus, ring}
 use Rattle.srs_num.proofs.Ranges.{within_product, within_turned, small_fits}
 use Rattle.srs_num.proofs.Floors.{floor_is, floor_within}
 use Rattle.srs_cell.specs.Floors.{IsRatioWithin, AreFloorsOf, IsLesserFloor}
-
-at_least : (a : ℤ) → pos 1 ≤ℤ a → pos 0 ≤ℤ a
-at_least a h = omega (arith, linear)
 
 -- what a test of two numbers tells
 pub read_lt : (a b : ℤ) → lt_z a b ≡ true → a <ℤ b
@@ -87,7 +84,7 @@ module _ (m : ℕ) (n d : ℤ) (near : IsRatioWithin m n d) where
   pub lesser_divided : (least k : ℤ) → IsFloor n d k → n <ℤ (least *ℤ d) → IsLesserFloor m n d least k
   lesser_divided least k f h = record {
     not_above = f.not_above;
-    not_more = by_lt_z least k (λ l. absurd (clash _ _ _ (mul_mono least k d (at_least d near.positive) (at_most least k l)) f.not_above h)) (λ l. l);
+    not_more = by_lt_z least k (λ l. absurd (clash _ _ _ (mul_mono least k d (nonneg_of_positive d near.positive) (at_most least k l)) f.not_above h)) (λ l. l);
     taken = inr f.greatest;
     range = floor_range k f;
   }

@@ -21,3 +21,4 @@ pub mod Counting
 pub mod Tightening
 pub mod Parting
 mod ShortDots
+mod HeldFloors

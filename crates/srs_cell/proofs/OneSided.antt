@@ -5,7 +5,7 @@ use Rattle.std.specs.Int.Signed.{le_z, lt_z}
 use Rattle.std.proofs.lemmas.Int.{ints, by_lt_z}
 use Rattle.std.proofs.lemmas.Bool.{false≢true, eqb-true, eqb-false}
 use Rattle.srs_num.specs.Points.{LinearForm, value}
-use Rattle.srs_num.proofs.Linear.{linear, mul_nonneg, mul_pos, zero_from, mul_zero, mul_one, mul_comm}
+use Rattle.srs_num.proofs.Linear.{linear, nonneg_of_positive, mul_nonneg, mul_pos, zero_from, mul_zero, mul_one, mul_comm}
 use Rattle.srs_num.proofs.Ring.{v, ◌⊗◌, minus, ring}
 use Rattle.srs_plane.specs.Regions.{Area}
 use Rattle.srs_cell.specs.declared.bounds.Bound.{Bound}
@@ -37,14 +37,11 @@ by_zero {P} {Q} n f g = by (nat_eq n 0) refl
 pub below_from_high : (R : Area) (f : LinearForm) (b : Bound) → IsHigh R f b → b.num <ℤ pos 0 → StaysBelow R f
 below_from_high R f b high h z i =
     by_lt_z (value f z) (pos 0) (λ l. l)
-    (λ k. absurd (clash _ _ _ (high.supremum.bound z i) (mul_nonneg b.den (value f z) (not_below _ high.positive) k)
+    (λ k. absurd (clash _ _ _ (high.supremum.bound z i) (mul_nonneg b.den (value f z) (nonneg_of_positive _ high.positive) k)
     (mul_pos (neg_ℤ b.num) z.d (turned _ h) (above _ i.is_point)) (ring (b.num ∷ z.d ∷ []) (minus (v 0) ⊗ v 1) (minus (v 0 ⊗ v 1)) tt)))
   where
     above : (a : ℤ) → pos 1 ≤ℤ a → pos 0 <ℤ a
     above a h = omega (arith, linear)
-
-    not_below : (a : ℤ) → pos 1 ≤ℤ a → pos 0 ≤ℤ a
-    not_below a h = omega (arith, linear)
 
     turned : (a : ℤ) → a <ℤ pos 0 → pos 0 <ℤ neg_ℤ a
     turned a h = omega (arith, linear)
@@ -73,12 +70,9 @@ below_from_open R f b high zero off z i =
     (λ k. absurd (false≢true (sym off ∙ high.all_attained (
       z,
       i,
-      same _ _ (ap (λ n. n *ℤ z.d) zero ∙ mul_zero z.d) (high.supremum.bound z i) (mul_nonneg b.den (value f z) (not_below _ high.positive) k),
+      same _ _ (ap (λ n. n *ℤ z.d) zero ∙ mul_zero z.d) (high.supremum.bound z i) (mul_nonneg b.den (value f z) (nonneg_of_positive _ high.positive) k),
     ))))
   where
-    not_below : (a : ℤ) → pos 1 ≤ℤ a → pos 0 ≤ℤ a
-    not_below a h = omega (arith, linear)
-
     same : (x y : ℤ) → y ≡ pos 0 → x ≤ℤ y → pos 0 ≤ℤ x → x ≡ y
     same x y e h k = omega (arith, linear)
 

@@ -26,10 +26,14 @@ asks_strictly Ge v h = omega (arith, linear)
 asks_strictly Gt v h = h
 
 -- where a corner is strictly within a half, the half has a point of the cell
-pub strict_point : (R : Area) (cs : List Point) (s : Point) (h : Half) (c : Point) → IsCell R cs s → Contains cs c → pos 0 <ℤ value h.form c → HasPoint (R ++ h ∷ [])
+strict_point : (R : Area) (cs : List Point) (s : Point) (h : Half) (c : Point) → IsCell R cs s → Contains cs c → pos 0 <ℤ value h.form c → HasPoint (R ++ h ∷ [])
 strict_point R cs s h c k among up =
     let w = reaches R cs s k c among h.form up in
     (w.0, IsIn-push R h w.0 w.1 (asks_strictly h.kind _ w.2))
+
+-- the same of a cell, by the tally of its corners
+pub point_above : (R : Area) (cs : List Point) (cell : (s : Point) × IsCell R cs s) (h : Half) (t : Tally) → IsTally h.form cs t → 1 ≤ t.above → HasPoint (R ++ h ∷ [])
+point_above R cs cell h t tally above = let corner = tally.above.some above in strict_point R cs cell.0 h corner.0 cell.1 corner.1 corner.2
 
 -- the part is a cell
 pub part_cell : (R : Area) (cs : List Point) (s : Point) (h : Half) (us : List Point) → IsCell R cs s → length R < 80 → AreCorners (R ++ h ∷ []) us

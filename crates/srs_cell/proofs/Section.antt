@@ -29,25 +29,30 @@ end_keep g hs e h i k = record {
   holds = λ z z_in. i.holds z (in_front hs h z z_in);
 }
 
--- a half that cuts the end off has the new one
-pub end_swap : (g : LinearForm) (hs : List LinearForm) (e h : LinearForm) → IsEnd g hs e → pos 0 <ℤ (meet h g).d → value h (meet e g) <ℤ pos 0 → IsEnd g (hs ++ h ∷ []) h
-end_swap g hs e h i k low = record {
+-- where it bounds the line that way, j isn't below 0 at the end of e
+abbrev IsUncut : LinearForm → LinearForm → LinearForm → Type 0
+IsUncut g e j = pos 0 <ℤ (meet j g).d → pos 0 ≤ℤ value j (meet e g)
+
+-- a new half is the end, where each of the others that bounds the line that way has it
+end_added : (g : LinearForm) (hs : List LinearForm) (h : LinearForm) → pos 0 <ℤ (meet h g).d → All (IsUncut g h) hs → IsEnd g (hs ++ h ∷ []) h
+end_added g hs h k nearest = record {
   turns = k;
-  nearest = All-push Good hs h
-      (All-weaker (λ k. pos 0 <ℤ (meet k g).d → pos 0 ≤ℤ value k (meet e g)) Good (λ j old dj.
-      nonneg_from (meet e g).d (value j (meet h g)) i.turns
-      (sum_by (meet j g).d (value e (meet h g)) (meet h g).d (value j (meet e g)) _ (along j e h g) dj
-      (turned_up _ _ (value-meet_turned e h g) low) k (old dj))) hs i.nearest)
-      (λ _. zero_good _ (value-meet_first h g));
+  nearest = All-push (IsUncut g h) hs h nearest (λ _. zero_good _ (value-meet_first h g));
   holds = in_last hs h;
 }
   where
-    Good : LinearForm → Type 0
-    Good j = pos 0 <ℤ (meet j g).d → pos 0 ≤ℤ value j (meet h g)
-
     zero_good : (a : ℤ) → a ≡ pos 0 → pos 0 ≤ℤ a
     zero_good a e = omega (arith, linear)
 
+-- a half that cuts the end off has the new one
+pub end_swap : (g : LinearForm) (hs : List LinearForm) (e h : LinearForm) → IsEnd g hs e → pos 0 <ℤ (meet h g).d → value h (meet e g) <ℤ pos 0 → IsEnd g (hs ++ h ∷ []) h
+end_swap g hs e h i k low =
+    end_added g hs h k
+    (All-weaker (IsUncut g e) (IsUncut g h) (λ j old dj.
+    nonneg_from (meet e g).d (value j (meet h g)) i.turns
+    (sum_by (meet j g).d (value e (meet h g)) (meet h g).d (value j (meet e g)) _ (along j e h g) dj
+    (turned_up _ _ (value-meet_turned e h g) low) k (old dj))) hs i.nearest)
+  where
     turned_up : (a b : ℤ) → a ≡ neg_ℤ b → b <ℤ pos 0 → pos 0 ≤ℤ a
     turned_up a b e h = omega (arith, linear)
 
@@ -59,20 +64,8 @@ end_swap g hs e h i k low = record {
 
 -- the first half that bounds the line that way
 pub end_first : (g : LinearForm) (hs : List LinearForm) (h : LinearForm) → All (λ h. (meet h g).d ≤ℤ pos 0) hs → pos 0 <ℤ (meet h g).d → IsEnd g (hs ++ h ∷ []) h
-end_first g hs h none k = record {
-  turns = k;
-  nearest = All-push Good hs h
-      (All-weaker (λ h. (meet h g).d ≤ℤ pos 0) Good (λ j low up. absurd (clash _ low up)) hs none)
-      (λ _. zero_good _ (value-meet_first h g));
-  holds = in_last hs h;
-}
+end_first g hs h none k = end_added g hs h k (All-weaker (λ h. (meet h g).d ≤ℤ pos 0) (IsUncut g h) (λ j low up. absurd (clash _ low up)) hs none)
   where
-    Good : LinearForm → Type 0
-    Good j = pos 0 <ℤ (meet j g).d → pos 0 ≤ℤ value j (meet h g)
-
-    zero_good : (a : ℤ) → a ≡ pos 0 → pos 0 ≤ℤ a
-    zero_good a e = omega (arith, linear)
-
     clash : (a : ℤ) → a ≤ℤ pos 0 → pos 0 <ℤ a → ⊥
     clash a h k = omega (arith, linear)
 

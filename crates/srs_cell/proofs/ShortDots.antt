@@ -1,39 +1,35 @@
 -- The value of a form at a point whose numbers 64 bits hold, step by step.
 use Rattle.std.proofs.Common.{◌≡◌, FitsSigned, w64, ℤ, ◌^◌, ◌*◌, ◌+◌, ◌*ℤ◌, ◌+ℤ◌, lit<}
 use Rattle.std.specs.Int.{w128}
-use Rattle.srs_num.specs.Points.{Point, IsWithin, IsPointWithin}
-use Rattle.srs_num.proofs.Ranges.{small_fits, dot_fits, within_product, within_sum}
+use Rattle.std.proofs.lemmas.Int.{to_z-of_z}
+use Rattle.srs_num.specs.Points.{Point, LinearForm, IsFormSized, IsWithin, IsPointWithin}
+use Rattle.srs_num.proofs.Ranges.{held, small_fits, dot_fits, within_product, within_sum}
 
--- the numbers in 64 bits, and the products and their sum in 128
-pub record ShortDot (a b c p q d : ℤ) : Type 0 where
-  pub a64 : FitsSigned w64 a
-  pub b64 : FitsSigned w64 b
-  pub c64 : FitsSigned w64 c
-  pub p64 : FitsSigned w64 p
-  pub q64 : FitsSigned w64 q
-  pub d64 : FitsSigned w64 d
-  pub first : FitsSigned w128 (a *ℤ p)
-  pub second : FitsSigned w128 (b *ℤ q)
-  pub third : FitsSigned w128 (c *ℤ d)
-  pub two : FitsSigned w128 (a *ℤ p +ℤ b *ℤ q)
-  pub all : FitsSigned w128 (a *ℤ p +ℤ b *ℤ q +ℤ c *ℤ d)
+-- what 128 bits hold of the product of two numbers that 64 bits hold, before it is cast
+abbrev pub long_product : ℤ → ℤ → ℤ
+long_product x y = held w128 (held w64 x *ℤ held w64 y)
 
-pub short_dot : (a b c p q d : ℤ) → IsWithin (2 ^ 38) a → IsWithin (2 ^ 38) b → IsWithin (2 ^ 38) c → IsWithin (2 ^ 38) p → IsWithin (2 ^ 38) q → IsWithin (2 ^ 38) d → ShortDot a b c p q d
-short_dot a b c p q d ha hb hc hp hq hd =
-    let fits = dot_fits a b c p q d (2 ^ 38) (2 ^ 38) ha hb hc hp hq hd (lit< tt) in
-    record {
-      a64 = small_fits w64 a (2 ^ 38) ha (lit< tt);
-      b64 = small_fits w64 b (2 ^ 38) hb (lit< tt);
-      c64 = small_fits w64 c (2 ^ 38) hc (lit< tt);
-      p64 = small_fits w64 p (2 ^ 38) hp (lit< tt);
-      q64 = small_fits w64 q (2 ^ 38) hq (lit< tt);
-      d64 = small_fits w64 d (2 ^ 38) hd (lit< tt);
-      first = fits.first;
-      second = fits.second;
-      third = fits.third;
-      two = fits.two;
-      all = fits.all;
-    }
+-- the product of two numbers within 2^38
+long_product_is : (x y : ℤ) → IsWithin (2 ^ 38) x → IsWithin (2 ^ 38) y → FitsSigned w128 (x *ℤ y) → long_product x y ≡ x *ℤ y
+long_product_is x y hx hy product =
+    let x64 : FitsSigned w64 x = small_fits w64 x (2 ^ 38) hx (lit< tt) in
+    let y64 : FitsSigned w64 y = small_fits w64 y (2 ^ 38) hy (lit< tt) in
+    simp to_z-of_z
+
+-- a sum of three products of such numbers is held by 128 bits
+pub record HeldShortDot (a b c p q d : ℤ) : Type 0 where
+  pub two : FitsSigned w128 (long_product a p +ℤ long_product b q)
+  pub all : FitsSigned w128 (held w128 (long_product a p +ℤ long_product b q) +ℤ long_product c d)
+  pub value : held w128 (held w128 (long_product a p +ℤ long_product b q) +ℤ long_product c d) ≡ a *ℤ p +ℤ b *ℤ q +ℤ c *ℤ d
+
+pub held_short_dot : (f : LinearForm) (p q d : ℤ) → IsFormSized f → IsWithin (2 ^ 38) p → IsWithin (2 ^ 38) q → IsWithin (2 ^ 38) d → HeldShortDot f.a f.b f.c p q d
+held_short_dot f p q d sized hp hq hd =
+    let fits = dot_fits f.a f.b f.c p q d (2 ^ 38) (2 ^ 38) sized.a_range sized.b_range sized.c_range hp hq hd (lit< tt) in
+    let x = long_product_is f.a p sized.a_range hp fits.first in
+    let y = long_product_is f.b q sized.b_range hq fits.second in
+    let z = long_product_is f.c d sized.c_range hd fits.third in
+    let same : held w128 (f.a *ℤ p +ℤ f.b *ℤ q) ≡ f.a *ℤ p +ℤ f.b *ℤ q = to_z-of_z w128 _ fits.two in
+    record { two = rw (x, y) fits.two; all = rw (x, y, z, same) fits.all; value = rw (x, y, z, same) (to_z-of_z w128 _ fits.all) }
 
 -- the value of a pair at a point, without the constant: all in 64 bits
 pub record ShortValue (p q a b : ℤ) : Type 0 where

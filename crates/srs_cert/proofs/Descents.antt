@@ -18,6 +18,10 @@ use Rattle.srs_cert.proofs.LtParts.{head_at}
 use Rattle.srs_cert.specs.Preorders.{AreOpenAfter}
 use Rattle.srs_cert.proofs.Preordered.{none_or, walked_all, walked_takes, walked_outcome}
 
+-- an event whose outcome was seen to be a cut
+pub read_cut : (H : History) (i : ℕ) (e seen : Entry) (o : Outcome) (h : LinearForm) → slice_get H i ≡ Some e → slice_get H i ≡ Some seen → o ≡ seen.outcome → o ≡ Cut h → e.outcome ≡ Cut h
+read_cut H i e seen o h at there is cut = ap (λ (x : Entry). x.outcome) (sym (same_Some seen e (sym there ∙ at))) ∙ sym is ∙ cut
+
 module _ (H : History) (tree : ListsWholeTree H) where
   -- each path that has an event is a cell
   pub events_closed : IsClosed (outcome_at H)

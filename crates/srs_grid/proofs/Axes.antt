@@ -1,10 +1,10 @@
 -- The forms along the axes.
-use Rattle.std.proofs.Common.{◌≡◌, ℕ, ◌+◌, ◌*◌, ◌^◌, ◌≤◌, ℤ, pos, ◌+ℤ◌, ◌-ℤ◌, ◌*ℤ◌, neg_ℤ, ◌≤ℤ◌, ◌<ℤ◌, [], ◌∷◌, sym, ap, ◌∙◌, arith}
-use Rattle.std.proofs.lemmas.Int.{ints}
+use Rattle.std.proofs.Common.{◌≡◌, ℕ, ◌+◌, ◌*◌, ◌^◌, ◌≤◌, ℤ, pos, ◌+ℤ◌, ◌-ℤ◌, ◌*ℤ◌, neg_ℤ, ◌≤ℤ◌, ◌<ℤ◌, [], ◌∷◌, w64, sym, ap, ◌∙◌, arith, lit<}
+use Rattle.std.proofs.lemmas.Int.{ints, to_z-of_z}
 use Rattle.std.proofs.lemmas.Nat.{pow-add}
 use Rattle.srs_num.specs.Points.{Point, LinearForm, value, IsNear, IsWithin}
 use Rattle.srs_num.proofs.Linear.{linear, mul_nonneg}
-use Rattle.srs_num.proofs.Ranges.{within_more}
+use Rattle.srs_num.proofs.Ranges.{held, within_more, small_fits}
 use Rattle.srs_num.proofs.Ring.{v, lit, ◌⊕◌, ◌⊖◌, ◌⊗◌, minus, ring}
 use Rattle.srs_plane.specs.Regions.{Area, IsIn, Divides}
 use Rattle.srs_path.specs.GridLine.{Axis, X, Y, form_along, grid_form}
@@ -99,5 +99,16 @@ spread_scaled R axis m near r i =
 scale_within : (m : ℕ) → m ≤ 36 → 4 * 2 ^ m ≤ 2 ^ 38
 scale_within m h = let small : 2 ^ m ≤ 2 ^ 36 = power_within m 36 h in omega arith
 
-pub line_within : (R : Area) (axis : Axis) (m : ℕ) (k : ℤ) → ((r : Point) → IsIn R r → IsNear r) → m ≤ 36 → Splits R (scaled axis m) k → IsWithin (2 ^ 38) k
+line_within : (R : Area) (axis : Axis) (m : ℕ) (k : ℤ) → ((r : Point) → IsIn R r → IsNear r) → m ≤ 36 → Splits R (scaled axis m) k → IsWithin (2 ^ 38) k
 line_within R axis m k near h split = within_more k (4 * 2 ^ m) (2 ^ 38) (level_within R (scaled axis m) (4 * 2 ^ m) k (spread_scaled R axis m near) split) (scale_within m h)
+
+-- the number of a line is held by 64 bits
+pub record HeldLine (k : ℤ) : Type 0 where
+  pub value : held w64 k ≡ k
+  pub near : IsWithin (2 ^ 38) (held w64 k)
+
+pub held_line : (R : Area) (axis : Axis) (m : ℕ) (k : ℤ) → ((r : Point) → IsIn R r → IsNear r) → m ≤ 36 → Splits R (scaled axis m) k → HeldLine k
+held_line R axis m k near h split =
+    let small = line_within R axis m k near h split in
+    let value : held w64 k ≡ k = to_z-of_z w64 k (small_fits w64 k (2 ^ 38) small (lit< tt)) in
+    record { value = value; near = rw value small }

@@ -43,9 +43,6 @@ module _ (r : Point) (z : V2) where
       let f : after j r z ≡ after (t + j) r z = subst (λ k. after j r z ≡ after (k + j) r z) (sym u) (again j p (j / p + 1) e) in
       (t, omega arith, omega arith, shifted j (t + j) t (t + t) f (omega arith) (omega arith))
 
-  plain_less : (k n : ℕ) → k ≤ n → IsPlainBefore r z n → IsPlainBefore r z k
-  plain_less k n h plain i l = plain i (omega arith)
-
   -- the first pair that shows an event of its own comes before any that is met twice
   pub quiet_before_event : (k : ℕ) → IsPlainBefore r z k → ¬ IsPlain (after k r z) → IsQuietBefore r z k
   quiet_before_event k plain event i l = record {

@@ -1,5 +1,5 @@
 -- The shift radix map of a parameter, and its n-fold use.
-use Rattle.std.specs.Prelude.{ℕ, zero, suc, ◌^◌, ℤ, pos, neg_ℤ, ◌+ℤ◌, ◌*ℤ◌}
+use Rattle.std.specs.Prelude.{ℕ, zero, suc, ℤ, pos, neg_ℤ, ◌+ℤ◌, ◌*ℤ◌}
 use Rattle.srs_num.specs.declared.pairs.V2.{V2}
 use Rattle.srs_num.specs.Points.{Point, IsWithin}
 use Rattle.srs_num.specs.Floor.{floor_quotient}

@@ -4,7 +4,7 @@ use Rattle.std.proofs.lemmas.Int.{ints, by_lt_z}
 use Rattle.std.specs.Int.{int_div_euclid, int_rem_euclid, w128}
 use Rattle.srs_num.specs.Points.{IsWithin}
 use Rattle.srs_num.specs.Floor.{IsFloor, IsCeiling, floor_quotient}
-use Rattle.srs_num.proofs.Linear.{linear, mul_nonneg, mul_mono, mul_comm, mul_neg}
+use Rattle.srs_num.proofs.Linear.{linear, nonneg_of_positive, mul_nonneg, mul_mono, mul_comm, mul_neg}
 use Rattle.srs_num.proofs.Ranges.{within_of}
 use Rattle.srs_num.proofs.Ring.{v, lit, ◌⊕◌, ◌⊖◌, ◌⊗◌, ring}
 
@@ -35,12 +35,9 @@ step_up q d = ring (q ∷ d ∷ []) ((v 0 ⊕ lit (pos 1)) ⊗ v 1) (v 0 ⊗ v 1
 pub floor_greatest : (n d k j : ℤ) → pos 1 ≤ℤ d → IsFloor n d j → (k *ℤ d) ≤ℤ n → k ≤ℤ j
 floor_greatest n d k j h w low =
     by_lt_z j k
-    (λ l. absurd (clash (k *ℤ d) (j *ℤ d) _ n d (mul_mono (j +ℤ pos 1) k d (at_least d h) (next j k l)) (step_up j d) low w.greatest))
+    (λ l. absurd (clash (k *ℤ d) (j *ℤ d) _ n d (mul_mono (j +ℤ pos 1) k d (nonneg_of_positive d h) (next j k l)) (step_up j d) low w.greatest))
     (λ l. l)
   where
-    at_least : (d : ℤ) → pos 1 ≤ℤ d → pos 0 ≤ℤ d
-    at_least d h = omega (arith, linear)
-
     next : (j k : ℤ) → j <ℤ k → (j +ℤ pos 1) ≤ℤ k
     next j k h = omega (arith, linear)
 
@@ -59,14 +56,11 @@ floor_within m n d k h w low high =
     within_of m k
     (floor_greatest n d (neg_ℤ (pos m)) k h w (from_turned _ _ _ (mul_neg d (pos m)) (mul_comm d (neg_ℤ (pos m))) (mul_comm d (pos m)) low))
     (by_lt_z (pos m) k
-    (λ l. absurd (clash _ _ _ n d (mul_mono (pos m +ℤ pos 1) k d (at_least d h) (next (pos m) k l)) (step_up (pos m) d) w.not_above high h))
+    (λ l. absurd (clash _ _ _ n d (mul_mono (pos m +ℤ pos 1) k d (nonneg_of_positive d h) (next (pos m) k l)) (step_up (pos m) d) w.not_above high h))
     (λ l. l))
   where
     from_turned : {n : ℤ} (x y z : ℤ) → x ≡ neg_ℤ y → x ≡ z → y ≡ pos m *ℤ d → neg_ℤ (pos m *ℤ d) ≤ℤ n → z ≤ℤ n
     from_turned x y z e f g h = omega (arith, linear)
-
-    at_least : (d : ℤ) → pos 1 ≤ℤ d → pos 0 ≤ℤ d
-    at_least d h = omega (arith, linear)
 
     next : (j k : ℤ) → j <ℤ k → (j +ℤ pos 1) ≤ℤ k
     next j k h = omega (arith, linear)

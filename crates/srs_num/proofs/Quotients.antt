@@ -2,7 +2,7 @@
 use Rattle.std.proofs.Common.{◌≡◌, [], ◌∷◌, ℤ, pos, ◌+ℤ◌, ◌-ℤ◌, ◌*ℤ◌, ◌≤ℤ◌, ◌<ℤ◌, FitsSigned, sym, ap, ◌∙◌, arith}
 use Rattle.std.specs.Int.{w128, int_div_euclid, int_rem_euclid}
 use Rattle.std.proofs.Math.Facts.{to_z-of_z}
-use Rattle.srs_num.proofs.Linear.{linear, mul_zero, mul_nonneg, mul_pos}
+use Rattle.srs_num.proofs.Linear.{linear, nonneg_of_positive, mul_zero, mul_nonneg, mul_pos}
 use Rattle.srs_num.proofs.Ring.{v, lit, ◌⊕◌, ◌⊖◌, ◌⊗◌, ring}
 use Rattle.srs_num.proofs.Floors.{euclid}
 use Rattle.srs_num.proofs.Ranges.{held}
@@ -63,16 +63,13 @@ pub outcomes : (n1 d1 q1 r1 n2 d2 q2 r2 : ℤ) → pos 1 ≤ℤ d1 → pos 1 ≤
 outcomes n1 d1 q1 r1 n2 d2 q2 r2 h1 h2 s t = record {
   lower = λ lt. less_whole n1 d1 q1 r1 n2 d2 q2 r2 h1 h2 s t lt;
   higher = λ lt. weaken _ _ (less_whole n2 d2 q2 r2 n1 d1 q1 r1 h2 h1 t s lt);
-  second_even = λ e z. none_left _ _ _ _ (less_even n1 d1 q1 r1 n2 d2 q2 r2 s t e) (ap (λ x. x *ℤ d1) z ∙ mul_zero d1) (mul_nonneg r1 d2 s.low (at_least _ h2));
+  second_even = λ e z. none_left _ _ _ _ (less_even n1 d1 q1 r1 n2 d2 q2 r2 s t e) (ap (λ x. x *ℤ d1) z ∙ mul_zero d1) (mul_nonneg r1 d2 s.low (nonneg_of_positive _ h2));
   first_even = λ e z off. some_left _ _ _ _ (less_even n1 d1 q1 r1 n2 d2 q2 r2 s t e) (ap (λ x. x *ℤ d2) z ∙ mul_zero d2) (mul_pos r2 d1 (above _ t.low off) (positive _ h1));
   next = λ e. less_even n1 d1 q1 r1 n2 d2 q2 r2 s t e ∙ ring (r2 ∷ d1 ∷ r1 ∷ d2 ∷ []) (v 0 ⊗ v 1 ⊖ v 2 ⊗ v 3) (v 1 ⊗ v 0 ⊖ v 3 ⊗ v 2) tt;
 }
   where
     weaken : (a b : ℤ) → a <ℤ b → a ≤ℤ b
     weaken a b h = omega (arith, linear)
-
-    at_least : (a : ℤ) → pos 1 ≤ℤ a → pos 0 ≤ℤ a
-    at_least a h = omega (arith, linear)
 
     positive : (a : ℤ) → pos 1 ≤ℤ a → pos 0 <ℤ a
     positive a h = omega (arith, linear)

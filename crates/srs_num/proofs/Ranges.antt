@@ -1,6 +1,6 @@
 -- Magnitudes of sums, differences and products, and that they fit.
-use Rattle.std.proofs.Common.{ℕ, ◌+◌, ◌-◌, ◌*◌, ◌^◌, ◌<◌, ◌≤◌, ℤ, pos, ◌+ℤ◌, ◌-ℤ◌, ◌*ℤ◌, neg_ℤ, ◌≤ℤ◌, unsigned_abs, FitsSigned, w64, arith, mul-le-mul, lit<}
-use Rattle.std.proofs.lemmas.Int.{ints, unsigned_abs-mul, fits_signed_from_abs}
+use Rattle.std.proofs.Common.{◌≡◌, ℕ, ◌+◌, ◌-◌, ◌*◌, ◌^◌, ◌<◌, ◌≤◌, ℤ, pos, ◌+ℤ◌, ◌-ℤ◌, ◌*ℤ◌, neg_ℤ, ◌≤ℤ◌, unsigned_abs, FitsSigned, w64, sym, ap, ap₂, ◌∙◌, subst, arith, mul-le-mul, lit<}
+use Rattle.std.proofs.lemmas.Int.{ints, unsigned_abs-mul, fits_signed_from_abs, to_z-of_z}
 use Rattle.std.specs.Int.{w128, Width}
 use Rattle.srs_num.specs.Points.{IsWithin}
 use mir.Val.{hbits, to_z, of_z}
@@ -92,40 +92,42 @@ dot_steps a b c p q d ha hb hc hp hq hd =
       all = fits.all;
     }
 
--- a difference of two products of numbers of a form, in 128 bits
-pub record MinorFits (a b c d : ℤ) : Type 0 where
-  pub a64 : FitsSigned w64 a
-  pub b64 : FitsSigned w64 b
-  pub c64 : FitsSigned w64 c
-  pub d64 : FitsSigned w64 d
-  pub a128 : FitsSigned w128 a
-  pub b128 : FitsSigned w128 b
-  pub c128 : FitsSigned w128 c
-  pub d128 : FitsSigned w128 d
-  pub first : FitsSigned w128 (a *ℤ d)
-  pub second : FitsSigned w128 (b *ℤ c)
-  pub all : FitsSigned w128 (a *ℤ d -ℤ b *ℤ c)
-  pub size : IsWithin (2 ^ 77) (a *ℤ d -ℤ b *ℤ c)
+-- what a word of the width w holds of two factors and of their product
+pub record HeldFactors (w : Width) (x y : ℤ) : Type 0 where
+  pub fits : FitsSigned w (held w x *ℤ held w y)
+  pub value : held w (held w x *ℤ held w y) ≡ x *ℤ y
 
-pub minor_fits : (a b c d : ℤ) → IsWithin (2 ^ 38) a → IsWithin (2 ^ 38) b → IsWithin (2 ^ 38) c → IsWithin (2 ^ 38) d → MinorFits a b c d
-minor_fits a b c d ha hb hc hd =
-    let x = within_product a d (2 ^ 38) (2 ^ 38) ha hd in
-    let y = within_product b c (2 ^ 38) (2 ^ 38) hb hc in
-    let xy = within_difference (a *ℤ d) (b *ℤ c) _ _ x y in
-    record {
-      a64 = small_fits w64 a _ ha (lit< tt);
-      b64 = small_fits w64 b _ hb (lit< tt);
-      c64 = small_fits w64 c _ hc (lit< tt);
-      d64 = small_fits w64 d _ hd (lit< tt);
-      a128 = small_fits w128 a _ ha (lit< tt);
-      b128 = small_fits w128 b _ hb (lit< tt);
-      c128 = small_fits w128 c _ hc (lit< tt);
-      d128 = small_fits w128 d _ hd (lit< tt);
-      first = small_fits w128 (a *ℤ d) _ x (lit< tt);
-      second = small_fits w128 (b *ℤ c) _ y (lit< tt);
-      all = small_fits w128 (a *ℤ d -ℤ b *ℤ c) _ xy (lit< tt);
-      size = xy;
-    }
+pub held_factors : (w : Width) (x y : ℤ) (m n : ℕ) → IsWithin m x → IsWithin n y → m < 2 ^ hbits w → n < 2 ^ hbits w → m * n < 2 ^ hbits w → HeldFactors w x y
+held_factors w x y m n hx hy lm ln lt =
+    let first : FitsSigned w x = small_fits w x m hx lm in
+    let second : FitsSigned w y = small_fits w y n hy ln in
+    let product : FitsSigned w (x *ℤ y) = small_fits w (x *ℤ y) (m * n) (within_product x y m n hx hy) lt in
+    record { fits = simp to_z-of_z product; value = simp to_z-of_z }
+
+-- what 128 bits hold of the product of two numbers of 64 bits
+abbrev pub wide_product : ℤ → ℤ → ℤ
+wide_product x y = held w128 (held w128 (held w64 x) *ℤ held w128 (held w64 y))
+
+-- the product of two numbers of a form is held
+wide_product_is : (x y : ℤ) → IsWithin (2 ^ 38) x → IsWithin (2 ^ 38) y → wide_product x y ≡ x *ℤ y
+wide_product_is x y hx hy =
+    rw (to_z-of_z w64 x (small_fits w64 x _ hx (lit< tt)), to_z-of_z w64 y (small_fits w64 y _ hy (lit< tt)))
+    (held_factors w128 x y (2 ^ 38) (2 ^ 38) hx hy (lit< tt) (lit< tt) (lit< tt)).value
+
+-- a difference of two products of numbers of a form is held by 128 bits
+pub record HeldMinor (a b c d : ℤ) : Type 0 where
+  pub fits : FitsSigned w128 (wide_product a d -ℤ wide_product b c)
+  pub value : held w128 (wide_product a d -ℤ wide_product b c) ≡ a *ℤ d -ℤ b *ℤ c
+  pub size : IsWithin (2 ^ 77) (held w128 (wide_product a d -ℤ wide_product b c))
+
+pub held_minor : (a b c d : ℤ) → IsWithin (2 ^ 38) a → IsWithin (2 ^ 38) b → IsWithin (2 ^ 38) c → IsWithin (2 ^ 38) d → HeldMinor a b c d
+held_minor a b c d ha hb hc hd =
+    let size : IsWithin (2 ^ 77) (a *ℤ d -ℤ b *ℤ c) =
+    within_difference (a *ℤ d) (b *ℤ c) _ _ (within_product a d (2 ^ 38) (2 ^ 38) ha hd) (within_product b c (2 ^ 38) (2 ^ 38) hb hc) in
+    let all : FitsSigned w128 (a *ℤ d -ℤ b *ℤ c) = small_fits w128 (a *ℤ d -ℤ b *ℤ c) _ size (lit< tt) in
+    let same : wide_product a d -ℤ wide_product b c ≡ a *ℤ d -ℤ b *ℤ c = ap₂ (λ x y. x -ℤ y) (wide_product_is a d ha hd) (wide_product_is b c hb hc) in
+    let value : held w128 (wide_product a d -ℤ wide_product b c) ≡ a *ℤ d -ℤ b *ℤ c = ap (held w128) same ∙ to_z-of_z w128 _ all in
+    record { fits = subst (FitsSigned w128) (sym same) all; value = value; size = subst (IsWithin (2 ^ 77)) (sym value) size }
 
 pub within_turned : (m : ℕ) (p : ℤ) → IsWithin m p → IsWithin m (pos 0 -ℤ p)
 within_turned m p h = omega (arith, ints)

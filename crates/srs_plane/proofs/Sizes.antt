@@ -1,11 +1,10 @@
 -- The numbers of vertices are small, and so are the numbers of their lines.
-use Rattle.std.proofs.Common.{◌≡◌, ◌^◌, ℤ, pos, neg_ℤ, ◌+ℤ◌, ◌-ℤ◌, ◌*ℤ◌, ◌≤ℤ◌, FitsSigned, w64, arith, lit<, lit≤}
-use Rattle.std.proofs.lemmas.Int.{ints}
-use Rattle.srs_num.specs.Points.{Point, LinearForm, IsFormSized, IsWithin, IsPtSized}
+use Rattle.std.proofs.Common.{◌≡◌, ◌^◌, ℤ, pos, neg_ℤ, ◌+ℤ◌, ◌-ℤ◌, ◌*ℤ◌, ◌≤ℤ◌, FitsSigned, w64, arith, lit<}
+use Rattle.std.proofs.lemmas.Int.{ints, to_z-of_z}
+use Rattle.srs_num.specs.Points.{Point, LinearForm, IsFormSized, IsWithin}
 use Rattle.srs_num.specs.Lines.{edge_form}
-use Rattle.srs_num.proofs.Ranges.{within_product, within_sum, within_difference, within_more, small_fits}
+use Rattle.srs_num.proofs.Ranges.{held, held_factors, within_product, within_sum, within_difference, small_fits}
 use Rattle.srs_plane.specs.declared.polygons.Vertex.{Vertex}
-use Rattle.srs_plane.specs.Polygons.{point_of}
 use Rattle.srs_plane.specs.Placed.{IsPlaced}
 
 -- what a vertex keeps
@@ -27,73 +26,54 @@ small v placed = record {
     denominator : (d : ℤ) → pos 1 ≤ℤ d → d ≤ℤ pos 65536 → IsWithin (2 ^ 18) d
     denominator d h k = omega (arith, ints)
 
--- three products and their sum, in 64 bits
-pub record DotFits (a b c p q d : ℤ) : Type 0 where
-  pub a64 : FitsSigned w64 a
-  pub b64 : FitsSigned w64 b
-  pub c64 : FitsSigned w64 c
-  pub p64 : FitsSigned w64 p
-  pub q64 : FitsSigned w64 q
-  pub d64 : FitsSigned w64 d
-  pub first : FitsSigned w64 (a *ℤ p)
-  pub second : FitsSigned w64 (b *ℤ q)
-  pub third : FitsSigned w64 (c *ℤ d)
-  pub two : FitsSigned w64 (a *ℤ p +ℤ b *ℤ q)
-  pub all : FitsSigned w64 (a *ℤ p +ℤ b *ℤ q +ℤ c *ℤ d)
+-- what 64 bits hold of a product
+abbrev pub short_product : ℤ → ℤ → ℤ
+short_product x y = held w64 (held w64 x *ℤ held w64 y)
 
-pub dot_fits : (a b c p q d : ℤ) → IsWithin (2 ^ 38) a → IsWithin (2 ^ 38) b → IsWithin (2 ^ 38) c → IsWithin (2 ^ 18) p → IsWithin (2 ^ 18) q → IsWithin (2 ^ 18) d
-    → DotFits a b c p q d
-dot_fits a b c p q d ha hb hc hp hq hd =
-    let x = within_product a p (2 ^ 38) (2 ^ 18) ha hp in
-    let y = within_product b q (2 ^ 38) (2 ^ 18) hb hq in
-    let z = within_product c d (2 ^ 38) (2 ^ 18) hc hd in
-    let xy = within_sum (a *ℤ p) (b *ℤ q) _ _ x y in
-    record {
-      a64 = small_fits w64 a _ ha (lit< tt);
-      b64 = small_fits w64 b _ hb (lit< tt);
-      c64 = small_fits w64 c _ hc (lit< tt);
-      p64 = small_fits w64 p _ hp (lit< tt);
-      q64 = small_fits w64 q _ hq (lit< tt);
-      d64 = small_fits w64 d _ hd (lit< tt);
-      first = small_fits w64 (a *ℤ p) _ x (lit< tt);
-      second = small_fits w64 (b *ℤ q) _ y (lit< tt);
-      third = small_fits w64 (c *ℤ d) _ z (lit< tt);
-      two = small_fits w64 (a *ℤ p +ℤ b *ℤ q) _ xy (lit< tt);
-      all = small_fits w64 (a *ℤ p +ℤ b *ℤ q +ℤ c *ℤ d) _ (within_sum (a *ℤ p +ℤ b *ℤ q) (c *ℤ d) _ _ xy z) (lit< tt);
-    }
+-- three products and their sum, as 64 bits hold them
+pub record HeldDot (a b c p q d : ℤ) : Type 0 where
+  pub first : FitsSigned w64 (held w64 a *ℤ held w64 p)
+  pub second : FitsSigned w64 (held w64 b *ℤ held w64 q)
+  pub third : FitsSigned w64 (held w64 c *ℤ held w64 d)
+  pub two : FitsSigned w64 (short_product a p +ℤ short_product b q)
+  pub all : FitsSigned w64 (held w64 (short_product a p +ℤ short_product b q) +ℤ short_product c d)
+  pub value : held w64 (held w64 (short_product a p +ℤ short_product b q) +ℤ short_product c d) ≡ a *ℤ p +ℤ b *ℤ q +ℤ c *ℤ d
 
 -- those of a form and a vertex
-pub dot_of : (f : LinearForm) (v : Vertex) → IsFormSized f → IsPlaced v → DotFits f.a f.b f.c v.p v.q v.d
-dot_of f v sized placed =
+pub held_dot : (f : LinearForm) (v : Vertex) → IsFormSized f → IsPlaced v → HeldDot f.a f.b f.c v.p v.q v.d
+held_dot f v sized placed =
     let near = small v placed in
-    dot_fits f.a f.b f.c v.p v.q v.d sized.a_range sized.b_range sized.c_range near.p_range near.q_range near.d_range
-
--- a difference of two products, in 64 bits
-pub record MinorFits (a b c d : ℤ) : Type 0 where
-  pub a64 : FitsSigned w64 a
-  pub b64 : FitsSigned w64 b
-  pub c64 : FitsSigned w64 c
-  pub d64 : FitsSigned w64 d
-  pub first : FitsSigned w64 (a *ℤ d)
-  pub second : FitsSigned w64 (b *ℤ c)
-  pub all : FitsSigned w64 (a *ℤ d -ℤ b *ℤ c)
-  pub size : IsWithin (2 ^ 37) (a *ℤ d -ℤ b *ℤ c)
-
-pub minor_fits : (a b c d : ℤ) → IsWithin (2 ^ 18) a → IsWithin (2 ^ 18) b → IsWithin (2 ^ 18) c → IsWithin (2 ^ 18) d → MinorFits a b c d
-minor_fits a b c d ha hb hc hd =
-    let x = within_product a d (2 ^ 18) (2 ^ 18) ha hd in
-    let y = within_product b c (2 ^ 18) (2 ^ 18) hb hc in
-    let xy = within_difference (a *ℤ d) (b *ℤ c) _ _ x y in
+    let x = held_factors w64 f.a v.p (2 ^ 38) (2 ^ 18) sized.a_range near.p_range (lit< tt) (lit< tt) (lit< tt) in
+    let y = held_factors w64 f.b v.q (2 ^ 38) (2 ^ 18) sized.b_range near.q_range (lit< tt) (lit< tt) (lit< tt) in
+    let z = held_factors w64 f.c v.d (2 ^ 38) (2 ^ 18) sized.c_range near.d_range (lit< tt) (lit< tt) (lit< tt) in
+    let size = within_sum (f.a *ℤ v.p) (f.b *ℤ v.q) _ _ (within_product f.a v.p (2 ^ 38) (2 ^ 18) sized.a_range near.p_range) (within_product f.b v.q (2 ^ 38) (2 ^ 18) sized.b_range near.q_range) in
+    let two : FitsSigned w64 (f.a *ℤ v.p +ℤ f.b *ℤ v.q) = small_fits w64 _ _ size (lit< tt) in
+    let all : FitsSigned w64 (f.a *ℤ v.p +ℤ f.b *ℤ v.q +ℤ f.c *ℤ v.d) =
+    small_fits w64 _ _ (within_sum (f.a *ℤ v.p +ℤ f.b *ℤ v.q) (f.c *ℤ v.d) _ _ size (within_product f.c v.d (2 ^ 38) (2 ^ 18) sized.c_range near.d_range)) (lit< tt) in
     record {
-      a64 = small_fits w64 a _ ha (lit< tt);
-      b64 = small_fits w64 b _ hb (lit< tt);
-      c64 = small_fits w64 c _ hc (lit< tt);
-      d64 = small_fits w64 d _ hd (lit< tt);
-      first = small_fits w64 (a *ℤ d) _ x (lit< tt);
-      second = small_fits w64 (b *ℤ c) _ y (lit< tt);
-      all = small_fits w64 (a *ℤ d -ℤ b *ℤ c) _ xy (lit< tt);
-      size = xy;
+      first = x.fits;
+      second = y.fits;
+      third = z.fits;
+      two = rw (x.value, y.value) two;
+      all = rw (x.value, y.value, z.value) (simp to_z-of_z all);
+      value = rw (x.value, y.value, z.value) (simp to_z-of_z);
     }
+
+-- a difference of two products of numbers of vertices, as 64 bits hold it
+pub record HeldVertexMinor (a b c d : ℤ) : Type 0 where
+  pub fits : FitsSigned w64 (short_product a d -ℤ short_product b c)
+  pub value : held w64 (short_product a d -ℤ short_product b c) ≡ a *ℤ d -ℤ b *ℤ c
+  pub size : IsWithin (2 ^ 37) (held w64 (short_product a d -ℤ short_product b c))
+
+pub held_vertex_minor : (a b c d : ℤ) → IsWithin (2 ^ 18) a → IsWithin (2 ^ 18) b → IsWithin (2 ^ 18) c → IsWithin (2 ^ 18) d → HeldVertexMinor a b c d
+held_vertex_minor a b c d ha hb hc hd =
+    let x = held_factors w64 a d (2 ^ 18) (2 ^ 18) ha hd (lit< tt) (lit< tt) (lit< tt) in
+    let y = held_factors w64 b c (2 ^ 18) (2 ^ 18) hb hc (lit< tt) (lit< tt) (lit< tt) in
+    let size : IsWithin (2 ^ 37) (a *ℤ d -ℤ b *ℤ c) =
+    within_difference (a *ℤ d) (b *ℤ c) _ _ (within_product a d (2 ^ 18) (2 ^ 18) ha hd) (within_product b c (2 ^ 18) (2 ^ 18) hb hc) in
+    let all : FitsSigned w64 (a *ℤ d -ℤ b *ℤ c) = small_fits w64 _ _ size (lit< tt) in
+    let value : held w64 (short_product a d -ℤ short_product b c) ≡ a *ℤ d -ℤ b *ℤ c = rw (x.value, y.value) (simp to_z-of_z) in
+    record { fits = rw (x.value, y.value) all; value = value; size = rw value size }
 
 -- the code of a line has the form of the line
 pub edge_form_is : (u w : Point) (a b c : ℤ) → a ≡ u.q *ℤ w.d -ℤ u.d *ℤ w.q → b ≡ u.d *ℤ w.p -ℤ u.p *ℤ w.d → c ≡ u.p *ℤ w.q -ℤ u.q *ℤ w.p

@@ -1,5 +1,6 @@
 // Polygons and their refusals.
 use srs_plane::{Halves, Kind, PolyErr, Region, Vertex, polygon};
+use srs_shapes::with_kind;
 use std::alloc::{AllocError, Global};
 use std::test::Fail;
 
@@ -35,24 +36,6 @@ const RANGES: [Row; 5] = [
         Some(PolyErr::Far(2)),
     ),
 ];
-
-// The vertices p/d, q/d, with edges of one kind.
-pub fn with_kind(
-    alloc: Global,
-    corners: &[(i64, i64, i64)],
-    kind: Kind,
-) -> Result<Vec<Vertex>, AllocError> {
-    let mut vertices = Vec::new(alloc);
-    for (p, q, d) in corners {
-        vertices.push(Vertex {
-            p: *p,
-            q: *q,
-            d: *d,
-            kind,
-        })?;
-    }
-    Ok(vertices)
-}
 
 // The region of the polygon, all of whose edges but for the first are closed.
 pub fn with_first_open(alloc: Global, corners: &[(i64, i64, i64)]) -> Result<Region, Fail> {
