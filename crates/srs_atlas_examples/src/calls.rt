@@ -3,7 +3,7 @@ ghost use Rattle.std.specs.Prelude.{◌≡◌, None};
 ghost use Rattle.srs_turn.specs.Passes.{IsPassOf};
 
 use crate::cells::{DOWN, SPLIT, UP, cell_of, part, path_of};
-use crate::commits::{Told, committed};
+use crate::commits::{Told, committed, committed_at};
 use srs_atlas::{Atlas, AtlasPass, PendingList, shared_cell};
 use srs_path::{Path, Side};
 use std::alloc::Global;
@@ -23,13 +23,15 @@ const CALLS: [Row; 5] = [
 
 const LAST: [Row; 1] = [("l", DOWN, Told::Done(3))];
 
-// Commits the findings one after another. The place of the first row that isn't so; none where all are.
+// Commits the findings one after another, by the call that is given a path or by the one that is
+// given a cell. The place of the first row that isn't so; none where all are.
 fn first_other<R: Wait>(
     rt: &R,
     alloc: Global,
     atlas: &Atlas,
     pass: &mut AtlasPass,
     rows: &[Row],
+    by_cell: bool,
 ) -> Result<Option<usize>, Fail>
     requires own { IsPassOf atlas.now pass.old }
     requires free { atlas.now.fixed.plan ≡ None }
@@ -38,7 +40,13 @@ fn first_other<R: Wait>(
     for i in 0..rows.len() {
         let (sides, side, wanted) = rows[i];
         let cell = part(alloc, &SPLIT, side)?;
-        if committed(rt, alloc, atlas, pass, path_of(sides)?, &cell) != wanted {
+        let path = path_of(sides)?;
+        let told = if by_cell {
+            committed_at(rt, alloc, atlas, pass, path, cell)
+        } else {
+            committed(rt, alloc, atlas, pass, path, &cell)
+        };
+        if told != wanted {
             return Ok(Some(i));
         }
     }
@@ -129,12 +137,12 @@ fn are_answered<R: Wait>(
     requires free { atlas.now.fixed.plan ≡ None }
 {
     let none = count_of(atlas, pass) == 0;
-    let calls = first_other(rt, alloc, atlas, pass, &CALLS)? == None;
+    let calls = first_other(rt, alloc, atlas, pass, &CALLS, false)? == None;
     let seen = sees(rt, alloc, atlas, pass)? == (2, 2, true);
     let counted = count_of(atlas, one) == 2;
     let shared = version_of(rt, alloc, atlas, two)? == 2;
     let waiting = waits_at(rt, alloc, atlas, three, &WAITING)?;
-    let last = first_other(rt, alloc, atlas, four, &LAST)? == None;
+    let last = first_other(rt, alloc, atlas, four, &LAST, true)? == None;
     Ok(none && calls && seen && counted && shared && waiting && last)
 }
 
@@ -153,5 +161,15 @@ fn atlas_calls(rt: HostRuntime) -> Result<(), Fail> {
             &rt, alloc, &atlas, &mut pass, &mut one, &mut two, &mut three, &mut four
         )?
     );
+    Ok(())
+}
+
+#[test]
+fn findings_at_cells(rt: HostRuntime) -> Result<(), Fail> {
+    let alloc = rt.alloc();
+    let (atlas, mut pass) = Atlas::start(&rt, alloc, cell_of(alloc, &SPLIT)?, 16)?;
+    let other = first_other(&rt, alloc, &atlas, &mut pass, &CALLS, true)?;
+    assert_eq!(rt; other, None);
+    assert_eq!(rt; sees(&rt, alloc, &atlas, &mut pass)?, (2, 2, true));
     Ok(())
 }

@@ -6,8 +6,9 @@ use srs_atlas::{Atlas, AtlasPass, Commit};
 use srs_cell::Cell;
 use srs_path::{Outcome, Path, Side};
 use srs_refine::refine;
+use srs_tree::Pending;
 use std::alloc::Global;
-use std::sync::Wait;
+use std::sync::{Arc, Wait};
 
 // What became of a finding: how many events there are; the form that cuts; the length and the last
 // side of the cell that is named; how many halves the cell has, and the last of them; no memory.
@@ -40,6 +41,36 @@ pub fn committed<R: Wait>(
         Ok(finding) => told_of(&atlas.commit(rt, alloc, pass, path, finding)),
         Err(_) => Told::NoMemory,
     }
+}
+
+// As `committed`, by the call that is given the cell. Where it says that it stands, no cell stands.
+pub fn committed_at<R: Wait>(
+    rt: &R,
+    alloc: Global,
+    atlas: &Atlas,
+    pass: &mut AtlasPass,
+    path: Path,
+    cell: Cell,
+) -> Told
+    requires own { IsPassOf atlas.now pass.old }
+    requires free { atlas.now.fixed.plan ≡ None }
+    ensures { IsPassOf atlas.now pass.new }
+{
+    if path.len() >= 48 {
+        return Told::NoMemory;
+    }
+    let Ok(finding) = refine(alloc, &cell, None, atlas.w()) else {
+        return Told::NoMemory;
+    };
+    let Ok(cell) = Arc::new(alloc, cell) else {
+        return Told::NoMemory;
+    };
+    let cell = Pending {
+        path,
+        cell,
+        place: 99,
+    };
+    told_of(&atlas.commit_at(rt, alloc, pass, &cell, finding))
 }
 
 pub fn told_of(commit: &Commit) -> Told {

@@ -1,8 +1,9 @@
 // Trees that grow in place, and versions of them.
-use crate::cells::{SPLIT, cell_of};
-use srs_path::{Cause, Last, Outcome, Path};
+use crate::cells::{SPLIT, UP, cell_of, part};
+use srs_path::{Cause, Finding, Last, Outcome, Path};
+use srs_plane::MOST_HALVES;
 use srs_refine::refine;
-use srs_tree::{Answer, GrowingTree, Pending, Version};
+use srs_tree::{Answer, GrowingTree, Pending, Version, parts_ahead};
 use std::alloc::Global;
 use std::test::Fail;
 
@@ -46,6 +47,30 @@ fn versions_of_a_tree(rt: HostRuntime) -> Result<(), Fail> {
     assert!(rt; root);
     assert_eq!(rt; taken, [(true, 0, false), (true, 1, true)]);
     assert_eq!(rt; told(&last)?, (true, 1, true));
+    Ok(())
+}
+
+// The numbers of the cells that are made ahead of the finding's entry, at the root.
+fn made_ahead(alloc: Global, root: &Pending, finding: &Finding) -> Result<Option<(u64, u64)>, Fail> {
+    if root.path.len() >= 48 || root.cell.region().len() >= MOST_HALVES {
+        Err("it is a root")?;
+    }
+    match parts_ahead(alloc, root, finding)?.parts {
+        Some((ge, lt)) => Ok(Some((ge.path.number(), lt.path.number()))),
+        None => Ok(None),
+    }
+}
+
+#[test]
+fn cells_made_ahead(rt: HostRuntime) -> Result<(), Fail> {
+    let alloc = rt.alloc();
+    let root = GrowingTree::start(alloc, cell_of(alloc, &SPLIT)?)?.root()?;
+    let cut = refine(alloc, &root.cell, None, 16)?;
+    let left = refine(alloc, &root.cell, Some(Last::Depth), 16)?;
+    let part = refine(alloc, &part(alloc, &SPLIT, UP)?, None, 16)?;
+    assert_eq!(rt; made_ahead(alloc, &root, &cut)?, Some((2, 3)));
+    assert_eq!(rt; made_ahead(alloc, &root, &left)?, None);
+    assert_eq!(rt; made_ahead(alloc, &root, &part)?, None);
     Ok(())
 }
 

@@ -78,6 +78,13 @@ fn is_below(sides: &str, above: &str) -> Result<bool, Fail> {
 }
 
 #[test]
+fn numbers(rt: HostRuntime) -> Result<(), Fail> {
+    assert_eq!(rt; path_of("")?.number(), 1);
+    assert_eq!(rt; path_of("lgl")?.number(), 13);
+    Ok(())
+}
+
+#[test]
 fn parents(rt: HostRuntime) -> Result<(), Fail> {
     assert!(rt; is_below("gl", "g")? && is_below("l", "")? && !is_below("gl", "l")?);
     assert!(rt; path_of("")?.parent().is_none());
