@@ -29,17 +29,17 @@ module _ {T : Type 0} (n : Numbers) (items : List (Option T)) (free : List ℕ) 
     pub slot : answer ≡ asked
     pub held : IfSome answer (HasSlot list)
 
-  slot_of : (list : Pairs T) (asked answer : Option ℕ) → answer ≡ asked → IfSome asked (HasSlot list) → IsSlotOf list asked answer
-  slot_of list asked answer is has = record { slot = is; held = subst (λ (o : Option ℕ). IfSome o (HasSlot list)) (sym is) has }
+  told_slot : (list : Pairs T) (asked answer : Option ℕ) → answer ≡ asked → IfSome asked (HasSlot list) → IsSlotOf list asked answer
+  told_slot list asked answer is has = record { slot = is; held = subst (λ (o : Option ℕ). IfSome o (HasSlot list)) (sym is) has }
 
   -- the slots at both ends
   pub first_seen : (list : Pairs T) (answer : Option ℕ) → AreOf n items free room list → answer ≡ some_slot (behind n NO_SLOT) → IsSlotOf list (first_slot list) answer
   first_seen list answer of is =
-      slot_of list (first_slot list) answer (is ∙ behind_is n (length items) list NO_SLOT of.row (kinds n items free room list of small).0 small) (has_first list)
+      told_slot list (first_slot list) answer (is ∙ behind_is n (length items) list NO_SLOT of.row (kinds n items free room list of small).0 small) (has_first list)
 
   pub last_seen : (list : Pairs T) (answer : Option ℕ) → AreOf n items free room list → answer ≡ some_slot (ahead n NO_SLOT) → IsSlotOf list (first_slot (reverse list)) answer
   last_seen list answer of is =
-      slot_of list (first_slot (reverse list)) answer (is ∙ ahead_is n (length items) list NO_SLOT of.row (kinds n items free room list of small).0 small) (has_last list)
+      told_slot list (first_slot (reverse list)) answer (is ∙ ahead_is n (length items) list NO_SLOT of.row (kinds n items free room list of small).0 small) (has_last list)
 
   module _ (list : Pairs T) (of : AreOf n items free room list) (slot : ℕ) (has : HasSlot list slot) where
     abbrev there : Stands list slot
@@ -87,10 +87,10 @@ module _ {T : Type 0} (n : Numbers) (items : List (Option T)) (free : List ℕ) 
 
     -- the slots on both sides
     pub next_seen : (answer : Option ℕ) → answer ≡ some_slot (behind n slot) → IsSlotOf list (slot_behind list slot) answer
-    next_seen answer is = slot_of list (slot_behind list slot) answer (is ∙ held_next) (has_behind list slot)
+    next_seen answer is = told_slot list (slot_behind list slot) answer (is ∙ held_next) (has_behind list slot)
 
     pub prev_seen : (answer : Option ℕ) → answer ≡ some_slot (ahead n slot) → IsSlotOf list (slot_behind (reverse list) slot) answer
-    prev_seen answer is = slot_of list (slot_behind (reverse list) slot) answer (is ∙ held_prev) (has_ahead list slot)
+    prev_seen answer is = told_slot list (slot_behind (reverse list) slot) answer (is ∙ held_prev) (has_ahead list slot)
 
     pub held_differ : DoSlotsDiffer list
     held_differ = subst DoSlotsDiffer (sym there.is) (all_differ n items free room small there.before slot there.item there.after parted)
