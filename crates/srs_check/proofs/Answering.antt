@@ -1,9 +1,10 @@
 -- What holds of an answer where it is Err, and of a place of an equal list.
-use Rattle.std.proofs.Common.{◌≡◌, ℕ, List, slice_get, Some, sym, ap, subst, ◌∙◌}
+use Rattle.std.proofs.Common.{◌≡◌, ℕ, List, length, slice_get, Some, sym, ap, subst, ◌∙◌}
 use Rattle.std.specs.Prelude.{Ok, Err, IfErr}
 use Rattle.std.specs.declared.result.Result.{Result}
+use Rattle.srs_plane.specs.Regions.{Area}
 use Rattle.srs_path.specs.declared.outcomes.Outcome.{Outcome}
-use Rattle.srs_path.specs.Views.{Budget}
+use Rattle.srs_path.specs.Views.{Budget, Entry}
 
 pub if_err : {A E : Type 0} {P Q : E → Type 0} (r : Result A E) → ((e : E) → P e → Q e) → IfErr r P → IfErr r Q
 if_err (Ok a) f p = p
@@ -13,6 +14,9 @@ if_err (Err e) f p = f e p
 pub same_get : {X : Type 0} (xs ys : List X) (i : ℕ) (x : X) → xs ≡ ys → slice_get xs i ≡ Some x → slice_get ys i ≡ Some x
 same_get xs ys i x e at = ap (λ zs. slice_get zs i) (sym e) ∙ at
 
--- what is said of a node, by equal limits, depths and outcomes
-pub same_node : (P : Budget → ℕ → Outcome → Type 0) (L M : Budget) (k n : ℕ) (o q : Outcome) → M ≡ L → n ≡ k → q ≡ o → P L k o → P M n q
-same_node P L M k n o q a b c p = subst (λ (x : Budget). P x n q) (sym a) (subst (λ (x : ℕ). P L x q) (sym b) (subst (P L k) (sym c) p))
+-- what is said of a node holds of the entry that was seen there, by equal regions and limits
+pub seen_node : (P : Area → Budget → ℕ → Outcome → Type 0) (R T : Area) (L M : Budget) (k : ℕ) (o : Outcome) (seen e : Entry) → R ≡ T → L ≡ M → seen ≡ e → k ≡ length seen.path → o ≡ seen.outcome
+    → P R L k o → P T M (length e.path) e.outcome
+seen_node P R T L M k o seen e region limits same depth outcome p =
+    subst (λ (x : Entry). P T M (length x.path) x.outcome) same
+    (subst (P T M (length seen.path)) outcome (subst (λ (n : ℕ). P T M n o) depth (subst (λ (x : Budget). P T x k o) limits (subst (λ (x : Area). P x L k o) region p))))

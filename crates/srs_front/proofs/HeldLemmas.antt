@@ -1,14 +1,14 @@
 -- The same for a list that has a slot.
 use Rattle.std.proofs.Common.{◌≡◌, ℕ, ◌<◌, ◌^◌, List, [], ◌∷◌, ◌++◌, length, get_or, set, sym, ap, subst, ◌∙◌, arith}
-use Rattle.std.specs.Prelude.{reverse}
+use Rattle.std.specs.Prelude.{reverse, IfSome}
 use Rattle.std.specs.declared.option.Option.{Option}
 use Rattle.std.specs.declared.option.Option.TheVariants.{Some, None}
 use Rattle.std.specs.declared.vec.Vec.{Vec}
 use Rattle.std.proofs.lemmas.List.{length-set}
 use Rattle.srs_front.specs.declared.links.TheConstants.{NO_SLOT}
 use Rattle.srs_front.specs.Numbers.{Numbers, behind, ahead, IsEnd, spliced_out, spliced_in}
-use Rattle.srs_front.specs.Walks.{item_at, HasSlot, without_slot, slot_behind, list_of, some_slot, DoSlotsDiffer, AreOf}
-use Rattle.srs_front.proofs.WalkLemmas.{Pairs, Stands, stands, list_is, seen}
+use Rattle.srs_front.specs.Walks.{item_at, HasSlot, without_slot, first_slot, slot_behind, list_of, some_slot, DoSlotsDiffer, AreOf}
+use Rattle.srs_front.proofs.WalkLemmas.{Pairs, Stands, stands, list_is, seen, kinds, behind_is, ahead_is, has_first, has_last, has_behind, has_ahead}
 use Rattle.srs_front.proofs.ChangeLemmas.{pushed, lt, holds, end_slot, end_a, end_b, without, next_is, prev_is, all_differ, unlinked, end_out, end_first_out, moved}
 
 -- a `Vec` has fewer items than memory has places
@@ -23,6 +23,23 @@ module _ {T : Type 0} (n : Numbers) (items : List (Option T)) (free : List ℕ) 
   -- the same for numbers that are equal to those
   pub kept_as : (m : Numbers) (list : Pairs T) → m ≡ n → AreOf n items free room list → AreOf m items free room (list_of m items) × (list_of m items ≡ list)
   kept_as m list same of = subst (λ (x : Numbers). AreOf x items free room (list_of x items) × (list_of x items ≡ list)) (sym same) (kept list of)
+
+  -- an answer is the slot that is asked for, and a slot that the list has
+  pub record IsSlotOf (list : Pairs T) (asked answer : Option ℕ) : Type 0 where
+    pub slot : answer ≡ asked
+    pub held : IfSome answer (HasSlot list)
+
+  told_slot : (list : Pairs T) (asked answer : Option ℕ) → answer ≡ asked → IfSome asked (HasSlot list) → IsSlotOf list asked answer
+  told_slot list asked answer is has = record { slot = is; held = subst (λ (o : Option ℕ). IfSome o (HasSlot list)) (sym is) has }
+
+  -- the slots at both ends
+  pub first_seen : (list : Pairs T) (answer : Option ℕ) → AreOf n items free room list → answer ≡ some_slot (behind n NO_SLOT) → IsSlotOf list (first_slot list) answer
+  first_seen list answer of is =
+      told_slot list (first_slot list) answer (is ∙ behind_is n (length items) list NO_SLOT of.row (kinds n items free room list of small).0 small) (has_first list)
+
+  pub last_seen : (list : Pairs T) (answer : Option ℕ) → AreOf n items free room list → answer ≡ some_slot (ahead n NO_SLOT) → IsSlotOf list (first_slot (reverse list)) answer
+  last_seen list answer of is =
+      told_slot list (first_slot (reverse list)) answer (is ∙ ahead_is n (length items) list NO_SLOT of.row (kinds n items free room list of small).0 small) (has_last list)
 
   module _ (list : Pairs T) (of : AreOf n items free room list) (slot : ℕ) (has : HasSlot list slot) where
     abbrev there : Stands list slot
@@ -49,17 +66,31 @@ module _ {T : Type 0} (n : Numbers) (items : List (Option T)) (free : List ℕ) 
     pub held_end : IsEnd n slot
     held_end = end_slot n items free room small there.before slot there.item there.after parted
 
-    pub held_ahead : IsEnd n (ahead n slot)
-    held_ahead = end_a n items free room small there.before slot there.item there.after parted
+    -- what is asked of a slot that comes out of its row
+    pub record CanLeave : Type 0 where
+      pub own : IsEnd n slot
+      pub ahead_of : IsEnd n (ahead n slot)
+      pub behind_of : IsEnd n (behind n slot)
 
-    pub held_behind : IsEnd n (behind n slot)
-    held_behind = end_b n items free room small there.before slot there.item there.after parted
+    pub can_leave : CanLeave
+    can_leave = record {
+      own = held_end;
+      ahead_of = end_a n items free room small there.before slot there.item there.after parted;
+      behind_of = end_b n items free room small there.before slot there.item there.after parted;
+    }
 
-    pub held_next : some_slot (behind n slot) ≡ slot_behind list slot
+    held_next : some_slot (behind n slot) ≡ slot_behind list slot
     held_next = next_is n items free room small there.before slot there.item there.after parted ∙ ap (λ (xs : Pairs T). slot_behind xs slot) (sym there.is)
 
-    pub held_prev : some_slot (ahead n slot) ≡ slot_behind (reverse list) slot
+    held_prev : some_slot (ahead n slot) ≡ slot_behind (reverse list) slot
     held_prev = prev_is n items free room small there.before slot there.item there.after parted ∙ ap (λ (xs : Pairs T). slot_behind (reverse xs) slot) (sym there.is)
+
+    -- the slots on both sides
+    pub next_seen : (answer : Option ℕ) → answer ≡ some_slot (behind n slot) → IsSlotOf list (slot_behind list slot) answer
+    next_seen answer is = told_slot list (slot_behind list slot) answer (is ∙ held_next) (has_behind list slot)
+
+    pub prev_seen : (answer : Option ℕ) → answer ≡ some_slot (ahead n slot) → IsSlotOf list (slot_behind (reverse list) slot) answer
+    prev_seen answer is = told_slot list (slot_behind (reverse list) slot) answer (is ∙ held_prev) (has_ahead list slot)
 
     pub held_differ : DoSlotsDiffer list
     held_differ = subst DoSlotsDiffer (sym there.is) (all_differ n items free room small there.before slot there.item there.after parted)

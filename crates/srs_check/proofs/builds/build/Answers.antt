@@ -11,8 +11,8 @@ use Rattle.srs_check.specs.Builds.{IsBuilt}
 use Rattle.srs_check.specs.Proving.{Proves}
 use Rattle.srs_check.specs.Faults.{Fails}
 use Rattle.srs_path.specs.declared.outcomes.Outcome.{Outcome}
-use Rattle.srs_path.specs.Views.{Budget, Entry}
-use Rattle.srs_check.proofs.Answering.{same_get, same_node}
+use Rattle.srs_path.specs.Views.{Budget}
+use Rattle.srs_check.proofs.Answering.{same_get, seen_node}
 use Rattle.srs_check.proofs.Excluded.{first_fault}
 use Rattle.srs_check.specs.Walks.{Awaits}
 use Rattle.srs_check.proofs.WalkStates.{some_cell, walk_fault, walk_proves, walk_certifies}
@@ -39,13 +39,9 @@ pub returns-in-Err : goal.returns-in-Err
 returns-in-Err c =
     let s : GrownTo c.args.c.now c.loop-i.i (c.in-Some.next ∷ c.take.new.self) c.loop-i.tree = subst (λ (xs : List WaitingCell). GrownTo c.args.c.now c.loop-i.i xs c.loop-i.tree) c.in-Some.ensures c.loop-i.invariant in
     let at : slice_get c.args.c.now.events c.loop-i.i ≡ Some c.get-event.result.now = same_get c.events.result.now c.args.c.now.events c.loop-i.i c.get-event.result.now c.events.ensures.events c.get-event.ensures in
-    let region : c.deref.result.now ≡ c.in-Some.next.region = c.deref.ensures ∙ ap (λ (w : WaitingCell). w.region) c.next.view_is in
-    let depth : length c.get-event.result.now.path ≡ c.len-depth.result = ap (λ (x : Entry). length x.path) (sym c.event.view_is) ∙ sym c.len-depth.ensures.len in
-    let outcome : c.get-event.result.now.outcome ≡ c.as_ref.result.now = ap (λ (x : Entry). x.outcome) (sym c.event.view_is) ∙ sym c.as_ref.ensures in
-    let limits : c.args.c.now.limits ≡ c.limits-limits.result = sym c.limits-limits.ensures in
-    let told = same_node (λ (L : Budget) (k : ℕ) (o : Outcome). Fails c.deref.result.now L c.args.c.now.events k o c.in-Err.fault) c.limits-limits.result c.args.c.now.limits c.len-depth.result (length c.get-event.result.now.path) c.as_ref.result.now c.get-event.result.now.outcome
-    limits depth outcome (c.in-Err.ensures.err c.args.c.now.events c.tally_of-tally.ensures.rows) in
-    let wrong = subst (λ (R : Area). Fails R c.args.c.now.limits c.args.c.now.events (length c.get-event.result.now.path) c.get-event.result.now.outcome c.in-Err.fault) region told in
+    let wrong = seen_node (λ (R : Area) (L : Budget) (k : ℕ) (o : Outcome). Fails R L c.args.c.now.events k o c.in-Err.fault) c.deref.result.now c.in-Some.next.region c.limits-limits.result c.args.c.now.limits
+    c.len-depth.result c.as_ref.result.now _ c.get-event.result.now (c.deref.ensures ∙ ap (λ (w : WaitingCell). w.region) c.next.view_is) c.limits-limits.ensures c.event.view_is c.len-depth.ensures.len c.as_ref.ensures
+    (c.in-Err.ensures.err c.args.c.now.events c.tally_of-tally.ensures.rows) in
     first_fault c.args.c.now c.line.result c.loop-i.i c.in-Err.fault c.line.ensures
     (walk_fault c.args.c.now c.loop-i.i c.in-Some.next.region (regions_of c.take.new.self) s.walk c.get-event.result.now at c.in-Err.fault wrong)
 
@@ -78,16 +74,11 @@ pub loop-i-preserved : goal.loop-i-preserved
 loop-i-preserved c =
     let s : GrownTo c.args.c.now c.loop-i.i (c.in-Some.next ∷ c.take.new.self) c.loop-i.tree = subst (λ (xs : List WaitingCell). GrownTo c.args.c.now c.loop-i.i xs c.loop-i.tree) c.in-Some.ensures c.loop-i.invariant in
     let at : slice_get c.args.c.now.events c.loop-i.i ≡ Some c.get-event.result.now = same_get c.events.result.now c.args.c.now.events c.loop-i.i c.get-event.result.now c.events.ensures.events c.get-event.ensures in
-    let region : c.deref.result.now ≡ c.in-Some.next.region = c.deref.ensures ∙ ap (λ (w : WaitingCell). w.region) c.next.view_is in
-    let depth : length c.get-event.result.now.path ≡ c.len-depth.result = ap (λ (x : Entry). length x.path) (sym c.event.view_is) ∙ sym c.len-depth.ensures.len in
-    let outcome : c.get-event.result.now.outcome ≡ c.as_ref.result.now = ap (λ (x : Entry). x.outcome) (sym c.event.view_is) ∙ sym c.as_ref.ensures in
-    let limits : c.args.c.now.limits ≡ c.limits-limits.result = sym c.limits-limits.ensures in
-    let told = same_node (λ (L : Budget) (k : ℕ) (o : Outcome). Proves c.deref.result.now L c.args.c.now.events k o) c.limits-limits.result c.args.c.now.limits c.len-depth.result (length c.get-event.result.now.path) c.as_ref.result.now c.get-event.result.now.outcome
-    limits depth outcome (c.in_default-check_node.ensures.ok c.args.c.now.events c.tally_of-tally.ensures.rows) in
-    let proves = subst (λ (R : Area). Proves R c.args.c.now.limits c.args.c.now.events (length c.get-event.result.now.path) c.get-event.result.now.outcome) region told in
-    let sound = subst (λ (R : Area). IsProvedOf R c.get-event.result.now.outcome) region (subst (IsProvedOf c.deref.result.now) (sym outcome) c.in_default-check_node.ensures.sound) in
+    let told = seen_node (λ (R : Area) (L : Budget) (k : ℕ) (o : Outcome). Proves R L c.args.c.now.events k o × IsProvedOf R o) c.deref.result.now c.in-Some.next.region c.limits-limits.result c.args.c.now.limits
+    c.len-depth.result c.as_ref.result.now _ c.get-event.result.now (c.deref.ensures ∙ ap (λ (w : WaitingCell). w.region) c.next.view_is) c.limits-limits.ensures c.event.view_is c.len-depth.ensures.len c.as_ref.ensures
+    (c.in_default-check_node.ensures.ok c.args.c.now.events c.tally_of-tally.ensures.rows, c.in_default-check_node.ensures.sound) in
     let grown : GrownTo c.args.c.now (c.loop-i.i + 1) (cells_from c.in_ok-ge.field-0 ++ c.take.new.self) c.enter.new.tree
-    = grown_next c.args.c.now c.node_count-nodes.ensures.certificate c.loop-i.i c.in-Some.next c.take.new.self c.loop-i.tree s c.get-event.result.now at proves sound
+    = grown_next c.args.c.now c.node_count-nodes.ensures.certificate c.loop-i.i c.in-Some.next c.take.new.self c.loop-i.tree s c.get-event.result.now at told.0 told.1
     c.enter.new.tree c.in_ok-ge.ensures.entered (cells_from c.in_ok-ge.field-0) c.in_ok-ge.ensures.parts in
     elim c.match-branch-6.branch [
       | in-Some-2 w ↦

@@ -1,6 +1,5 @@
-use Rattle.std.proofs.Common.{◌≡◌, ◌++◌, ◌∷◌, [], codes}
+use Rattle.std.proofs.Common.{◌++◌, ◌∷◌, [], codes}
 use Rattle.std.proofs.lemmas.Result.{err_from_is_err_and}
-use Rattle.srs_path.specs.Views.{Entry}
 use Rattle.srs_cert.specs.Lives.{path_text, outcome_line}
 use Rattle.srs_print.specs.Fronts.{StopsIn}
 use Rattle.srs_print.proofs.FrontLemmas.{sooner, later}

@@ -1,4 +1,4 @@
-use Rattle.std.proofs.Common.{All, arith}
+use Rattle.std.proofs.Common.{arith}
 use Rattle.srs_cert.specs.Sayings.{IsSayable}
 use Rattle.srs_print.proofs.Firsts.{all_next, all_of}
 use Rattle.srs_print.proofs.numbers.sayable_session.Goals as goal

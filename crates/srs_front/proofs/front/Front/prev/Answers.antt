@@ -1,10 +1,7 @@
 -- The slot ahead is behind it in the list reversed.
-use Rattle.std.proofs.Common.{◌∙◌, ap, sym, subst, ℕ}
-use Rattle.std.specs.Prelude.{IfSome}
-use Rattle.std.specs.declared.option.Option.{Option}
-use Rattle.srs_front.specs.Walks.{HasSlot, some_slot, list_of}
-use Rattle.srs_front.proofs.WalkLemmas.{has_ahead}
-use Rattle.srs_front.proofs.HeldLemmas.{few_items, held_end, held_prev}
+use Rattle.std.proofs.Common.{◌∙◌, ap}
+use Rattle.srs_front.specs.Walks.{some_slot, list_of}
+use Rattle.srs_front.proofs.HeldLemmas.{few_items, held_end, prev_seen}
 use Rattle.srs_front.proofs.front.Front.prev.Goals as goal
 
 pub ahead-requires : goal.ahead-requires
@@ -16,14 +13,9 @@ ahead-requires g c =
 pub returns-clause-slot : goal.returns-clause-slot
 returns-clause-slot g c =
     let f = c.self.inside in
-    rw (← c.self.view_is)
-    (c.some_slot.ensures ∙ ap some_slot c.ahead.ensures
-    ∙ held_prev f.links f.items.items f.free.items f.free.cap (few_items f.items) (list_of f.links f.items.items) c.self.invariant c.args.slot
-    (rw c.self.view_is c.requires))
+    rw (← c.self.view_is) (prev_seen f.links f.items.items f.free.items f.free.cap (few_items f.items) (list_of f.links f.items.items) c.self.invariant c.args.slot (rw c.self.view_is c.requires) c.some_slot.result (c.some_slot.ensures ∙ ap some_slot c.ahead.ensures)).slot
 
 pub returns-clause-held : goal.returns-clause-held
 returns-clause-held g c =
     let f = c.self.inside in
-    let list = list_of f.links f.items.items in
-    rw (← c.self.view_is)
-    (subst (λ (o : Option ℕ). IfSome o (HasSlot list)) (sym (c.some_slot.ensures ∙ ap some_slot c.ahead.ensures ∙ held_prev f.links f.items.items f.free.items f.free.cap (few_items f.items) (list_of f.links f.items.items) c.self.invariant c.args.slot (rw c.self.view_is c.requires))) (has_ahead list c.args.slot))
+    rw (← c.self.view_is) (prev_seen f.links f.items.items f.free.items f.free.cap (few_items f.items) (list_of f.links f.items.items) c.self.invariant c.args.slot (rw c.self.view_is c.requires) c.some_slot.result (c.some_slot.ensures ∙ ap some_slot c.ahead.ensures)).held

@@ -3,23 +3,23 @@ use Rattle.std.proofs.Common.{◌∙◌, refl, sym, subst, None, arith}
 use Rattle.std.specs.Prelude.{IsSome}
 use Rattle.std.proofs.lemmas.List.{get_or_read}
 use Rattle.srs_front.specs.Walks.{list_of}
-use Rattle.srs_front.proofs.HeldLemmas.{few_items, held_lt, held_end, held_ahead, held_behind, held_item, held_found, held_differ, unlinked_as}
+use Rattle.srs_front.proofs.HeldLemmas.{few_items, held_lt, can_leave, held_item, held_found, held_differ, unlinked_as}
 use Rattle.srs_front.proofs.front.Front.unlink.Goals as goal
 
 pub splice_out-requires-clause-slot : goal.splice_out-requires-clause-slot
 splice_out-requires-clause-slot g c =
     let f = c.self.inside in
-    held_end f.links f.items.items f.free.items f.free.cap (few_items f.items) (list_of f.links f.items.items) c.self.invariant c.args.slot (rw c.self.view_is c.requires)
+    (can_leave f.links f.items.items f.free.items f.free.cap (few_items f.items) (list_of f.links f.items.items) c.self.invariant c.args.slot (rw c.self.view_is c.requires)).own
 
 pub splice_out-requires-clause-a : goal.splice_out-requires-clause-a
 splice_out-requires-clause-a g c =
     let f = c.self.inside in
-    held_ahead f.links f.items.items f.free.items f.free.cap (few_items f.items) (list_of f.links f.items.items) c.self.invariant c.args.slot (rw c.self.view_is c.requires)
+    (can_leave f.links f.items.items f.free.items f.free.cap (few_items f.items) (list_of f.links f.items.items) c.self.invariant c.args.slot (rw c.self.view_is c.requires)).ahead_of
 
 pub splice_out-requires-clause-b : goal.splice_out-requires-clause-b
 splice_out-requires-clause-b g c =
     let f = c.self.inside in
-    held_behind f.links f.items.items f.free.items f.free.cap (few_items f.items) (list_of f.links f.items.items) c.self.invariant c.args.slot (rw c.self.view_is c.requires)
+    (can_leave f.links f.items.items f.free.items f.free.cap (few_items f.items) (list_of f.links f.items.items) c.self.invariant c.args.slot (rw c.self.view_is c.requires)).behind_of
 
 pub index_mut-requires : goal.index_mut-requires
 index_mut-requires g c =
