@@ -1,8 +1,8 @@
 -- What an entry does to a book.
-use Rattle.std.proofs.Common.{◌≡◌, ◌≢◌, ℕ, zero, suc, ◌<◌, Bool, true, false, not, cond, List, [], ◌∷◌, ◌++◌, length, map, slice_get, get_or, refl, sym, ap, ap₂, subst, ◌∙◌, arith, append-nil}
+use Rattle.std.proofs.Common.{◌≡◌, ℕ, suc, Bool, true, false, not, cond, List, [], ◌∷◌, ◌++◌, length, map, refl, sym, ap, ap₂, subst, ◌∙◌, arith, append-nil}
 use Rattle.std.specs.Prelude.{Contains, IsSome}
-use Rattle.std.specs.List.{AllPairs, filter, remove}
-use Rattle.std.proofs.lemmas.List.{map-append, length-map}
+use Rattle.std.specs.List.{filter}
+use Rattle.std.proofs.lemmas.List.{map-append}
 use Rattle.std.specs.FinMap as finite
 use Rattle.std.specs.declared.option.Option.{Option}
 use Rattle.std.specs.declared.option.Option.TheVariants.{Some}
@@ -21,7 +21,7 @@ use Rattle.srs_tree.specs.Rounds.{parts_by, MayComeNext, IsPlanned}
 use Rattle.srs_tree.specs.Snapshots.{Snapshot, tree_of, with_entry, StandsFor}
 use Rattle.srs_tree.specs.Growth.{IsOpenIn, IsShortCut, MayEnter, IsLongestCell, IsTreeErr}
 use Rattle.srs_tree.specs.Queue.{WaitingCell, Growing, queue_of, cell_in, without}
-use Rattle.srs_tree.proofs.HistoryLemmas.{path_eq_same, same_path, outcome_at_stays, IsLegal-append, IsLegal-empty}
+use Rattle.srs_tree.proofs.HistoryLemmas.{outcome_at_stays, IsLegal-append, IsLegal-empty}
 use Rattle.srs_tree.proofs.TreeLemmas.{region_at_stays}
 use Rattle.srs_tree.proofs.PlannedWhole.{Closed, some_is, cell_back, plan_stays}
 use Rattle.srs_tree.proofs.PlannedSteps.{IsPlanned-append, IsPlanned-empty}

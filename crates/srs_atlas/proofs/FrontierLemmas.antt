@@ -1,23 +1,20 @@
 -- The numbers of cells, and lists of cells in slots.
-use Rattle.std.proofs.Common.{◌≡◌, ◌≢◌, ℕ, zero, suc, ◌+◌, ◌*◌, ◌^◌, ◌<◌, ◌≤◌, Bool, true, false, not, cond, eqb, List, [], ◌∷◌, ◌++◌, length, map, take, drop, get_or, slice_get, refl, sym, ap, ap₂, subst, ◌∙◌, arith}
+use Rattle.std.proofs.Common.{◌≡◌, ◌≢◌, ℕ, ◌+◌, ◌*◌, ◌≤◌, Bool, true, false, not, cond, eqb, List, [], ◌∷◌, ◌++◌, refl, sym, ap, ap₂, subst, ◌∙◌, arith}
 use Rattle.std.specs.Prelude.{reverse, IsSome}
-use Rattle.std.specs.List.{AllByRecursion, filter}
+use Rattle.std.specs.List.{AllByRecursion}
 use Rattle.std.specs.declared.option.Option.{Option}
 use Rattle.std.specs.declared.option.Option.TheVariants.{Some, None}
-use Rattle.std.proofs.Math.Nat.{pow-suc}
-use Rattle.std.proofs.lemmas.Option.{get_or_from_slice_get}
-use Rattle.std.proofs.lemmas.List.{take_more, append-nil, append_assoc, map-append, reverse-append, reverse-reverse}
+use Rattle.std.proofs.lemmas.List.{append-nil, append_assoc, reverse-append, reverse-reverse}
 use Rattle.std.proofs.lemmas.List.Elements.{filter-append}
 use Rattle.std.proofs.lemmas.Bool.{eqb-true, eqb-false, eq-eqb, ne_eqb}
 use Rattle.srs_path.specs.declared.paths.Side.{Side}
 use Rattle.srs_path.specs.declared.paths.Side.TheVariants.{Ge, Lt}
 use Rattle.srs_path.specs.Paths.{digit_of, digits_then}
-use Rattle.srs_path.proofs.Digits.{digit_below, digits_then-push}
 use Rattle.srs_front.specs.Walks.{item_at, HasSlot, without_slot, slots_of, DoSlotsDiffer}
 use Rattle.srs_tree.specs.Tree.{path_eq}
 use Rattle.srs_tree.specs.Queue.{WaitingCell, without}
 use Rattle.srs_tree.proofs.HistoryLemmas.{path_eq_same, same_path}
-use Rattle.srs_atlas.specs.Frontiers.{cells_of, number_at, slot_with, LacksPath, LackPaths, DoPathsDiffer, AreSlotsOf}
+use Rattle.srs_atlas.specs.Frontiers.{cells_of, number_at, slot_with, LacksPath, DoPathsDiffer}
 
 -- the number of a path that is read from its end
 abbrev back_number : List Side → ℕ

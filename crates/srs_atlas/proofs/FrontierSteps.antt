@@ -1,5 +1,5 @@
 -- What a push and a removal do to the cells and the map of a frontier.
-use Rattle.std.proofs.Common.{◌≡◌, ◌≢◌, ℕ, ◌<◌, Bool, true, false, cond, eqb, ltb, List, [], ◌∷◌, ◌++◌, map, refl, sym, ap, subst, ◌∙◌, arith}
+use Rattle.std.proofs.Common.{◌≡◌, ℕ, true, false, cond, eqb, List, [], ◌∷◌, ◌++◌, sym, ap, subst, ◌∙◌}
 use Rattle.std.specs.HashMap.{get, Updates}
 use Rattle.std.specs.Map.{lookup}
 use Rattle.std.specs.declared.option.Option.{Option}

@@ -51,7 +51,11 @@ fn versions_of_a_tree(rt: HostRuntime) -> Result<(), Fail> {
 }
 
 // The numbers of the cells that are made ahead of the finding's entry, at the root.
-fn made_ahead(alloc: Global, root: &Pending, finding: &Finding) -> Result<Option<(u64, u64)>, Fail> {
+fn made_ahead(
+    alloc: Global,
+    root: &Pending,
+    finding: &Finding,
+) -> Result<Option<(u64, u64)>, Fail> {
     if root.path.len() >= 48 || root.cell.region().len() >= MOST_HALVES {
         Err("it is a root")?;
     }

@@ -1,10 +1,8 @@
 -- Facts that can be built from, beside the negations.
-use Rattle.std.proofs.Common.{◌⊎◌, inl, inr, ℕ, ◌<◌, List, ℤ, arith, sym, length}
-use Rattle.srs_num.specs.declared.pairs.V2.{V2}
+use Rattle.std.proofs.Common.{◌⊎◌, inl, inr, ℕ, ◌<◌, List, ℤ, arith, length}
 use Rattle.srs_num.specs.Points.{Point}
 use Rattle.srs_num.proofs.Linear.{linear}
 use Rattle.srs_plane.specs.Regions.{Area, IsIn, Divides}
-use Rattle.srs_path.specs.Witnesses.{IsWitness, link, HasEdge, IsSmall, IsLarge, many, wide}
 use Rattle.srs_path.specs.Cutout.{Covers, Breaks, HoldsAt, lower_form, upper_form}
 
 pub breaks_not_covers : (R : Area) (c : List ℤ) (i : ℕ) → i < length c → Breaks R c i → Covers R c → ⊥

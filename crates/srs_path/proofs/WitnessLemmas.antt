@@ -11,7 +11,7 @@ use Rattle.srs_map.specs.Step.{pair, origin, IsNarrow}
 use Rattle.srs_map.specs.Links.{IsUnit, IsLink}
 use Rattle.srs_plane.specs.Regions.{Area, IsIn}
 use Rattle.srs_path.specs.Witnesses.{IsWitness, unit, link, HasEdge, IsSmall, AreWitnesses}
-use Rattle.srs_path.specs.Core.{Wanders, HasNoCore, pair_eq}
+use Rattle.srs_path.specs.Core.{Wanders, pair_eq}
 
 -- a property of the units that each link keeps is one of each witness
 pub witness_induction : (R : Area) (P : V2 → Type 0) → ((w : V2) → IsUnit w → P w) → ((w v : V2) (r : Point) → IsIn R r → IsLink r w v → P w → P v) → {w : V2} → IsWitness R w → P w

@@ -109,7 +109,8 @@ pub(crate) fn parts_for(
     requires spots { AreSpots nodes.now }
     requires there { IsOpenAt nodes.now path.now f.now.region i }
     requires short { IsShortCut path.now f.now.outcome }
-    requires ahead { AreMadeBy (record { path = path.now; region = f.now.region }) f.now.outcome ahead }
+    requires ahead { AreMadeBy (record { path = path.now; region = f.now.region })
+        f.now.outcome ahead }
     ensures { IfOk result (λ parts. cells_from parts
         ≡ map (cell_in (with_entry (snapshot_of nodes.now) path.now f.now.outcome)) (parts_by path.now f.now.outcome)) }
 {
@@ -255,12 +256,7 @@ fn parts_of(alloc: Global, node: &Node, outcome: &Outcome) -> Result<Option<(Nod
     requires { MaySettle node.now outcome.now }
     ensures { IfOk result (λ parts. spots_from parts ≡ parts_from node.now outcome.now) }
 {
-    Ok(nodes_of(cells_of(
-        alloc,
-        &node.path(),
-        node.cell(),
-        outcome,
-    )?))
+    Ok(nodes_of(cells_of(alloc, &node.path(), node.cell(), outcome)?))
 }
 
 // The parts, which will stand from this place on, as open cells.
@@ -322,12 +318,7 @@ fn cells_of(
 }
 
 // The two parts of the cell at the path, which the form divides.
-fn halves(
-    alloc: Global,
-    path: &Path,
-    cell: &Cell,
-    h: &Form,
-) -> Result<(Pending, Pending), NoMemory>
+fn halves(alloc: Global, path: &Path, cell: &Cell, h: &Form) -> Result<(Pending, Pending), NoMemory>
     requires divides { Divides cell.now h.now }
     requires room { length path.now < 48 }
     requires few { length cell.now < MOST_HALVES }

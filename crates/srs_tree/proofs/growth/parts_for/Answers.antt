@@ -15,11 +15,11 @@ returns c =
     let at = c.requires.there in
     let cell : Area → WaitingCell = λ R. record { path = c.args.path.now; region = R } in
     let made : cells_from c.match-ahead.parts ≡ cells_made (cell f.region) f.outcome = elim c.match-ahead.branch [
-      in-Some w ↦ ap cells_from w.parts-is ∙ subst (AreMadeBy (cell f.region) f.outcome) w.in-Some.is c.requires.ahead
+      | in-Some w ↦ ap cells_from w.parts-is ∙ subst (AreMadeBy (cell f.region) f.outcome) w.in-Some.is c.requires.ahead
       | in-None+in_ok-parts-in-None w ↦
-        let same = ap (λ (x : Spot). x.region) (sym (is_spot c.args.nodes.now c.args.path.now f c.args.i c.requires.spots at w.get.result.now w.get.ensures.item)) ∙ at.region in
-        ap cells_from w.parts-is ∙ w.in_ok-parts-in-None.ensures
-        ∙ ap₂ (λ (R : Area) (o : Outcome). cells_made (cell R) o) (w.deref.ensures ∙ w.cell.ensures ∙ same) w.outcome.ensures.outcome
+          let same = ap (λ (x : Spot). x.region) (sym (is_spot c.args.nodes.now c.args.path.now f c.args.i c.requires.spots at w.get.result.now w.get.ensures.item)) ∙ at.region in
+          ap cells_from w.parts-is ∙ w.in_ok-parts-in-None.ensures
+          ∙ ap₂ (λ (R : Area) (o : Outcome). cells_made (cell R) o) (w.deref.ensures ∙ w.cell.ensures ∙ same) w.outcome.ensures.outcome
     ] in
     c.placed.ensures ∙ made
     ∙ made_before c.args.nodes.now c.args.path.now f c.args.i c.requires.spots at (omega (arith, c.len-place.ensures.most, c.len-place.ensures.len)) c.w.ensures.sound

@@ -1,5 +1,5 @@
 -- The book with the event, or as it was, and what is answered.
-use Rattle.std.proofs.Common.{◌≡◌, ◌++◌, ◌∙◌, sym, ap, subst, map, List, false, arith}
+use Rattle.std.proofs.Common.{◌≡◌, ◌++◌, ◌∙◌, sym, ap, subst, map, false, arith}
 use Rattle.std.specs.Prelude.{is_err}
 use Rattle.srs_path.specs.Views.{Found}
 use Rattle.srs_tree.specs.Rounds.{parts_by}

@@ -1,11 +1,11 @@
 -- The cell comes last, with its entry; or both stay away.
-use Rattle.std.proofs.Common.{◌≡◌, ◌∙◌, sym, ap, subst, ℕ, List, [], ◌∷◌, ◌++◌, true, false}
+use Rattle.std.proofs.Common.{◌≡◌, ◌∙◌, sym, ap, subst, List, [], ◌∷◌, ◌++◌, true, false}
 use Rattle.std.specs.Prelude.{nat_eq, is_err}
 use Rattle.std.specs.HashMap.{IsUnchanged, Updates}
 use Rattle.std.specs.declared.option.Option.TheVariants.{Some}
 use Rattle.srs_front.specs.Walks.{HasSlot}
 use Rattle.srs_tree.specs.Queue.{WaitingCell}
-use Rattle.srs_atlas.specs.Frontiers.{LacksPath, number_at, cells_of}
+use Rattle.srs_atlas.specs.Frontiers.{LacksPath, number_at}
 use Rattle.srs_atlas.proofs.FrontierLemmas.{Cells, has_pushed}
 use Rattle.srs_atlas.proofs.FrontierSteps.{pushed, undone, on_ok, on_err}
 use Rattle.srs_atlas.proofs.frontier.Frontier.push_uncounted.Goals as goal

@@ -1,5 +1,5 @@
 -- The cell goes, with its entry.
-use Rattle.std.proofs.Common.{◌∙◌, sym, ap, None}
+use Rattle.std.proofs.Common.{◌∙◌, sym, ap}
 use Rattle.std.specs.HashMap.{IsUnchanged}
 use Rattle.srs_tree.specs.Queue.{without}
 use Rattle.srs_atlas.proofs.FrontierLemmas.{found_slot}
