@@ -9,7 +9,7 @@ use Rattle.srs_turn.specs.declared.view.Role.{Role}
 use Rattle.srs_turn.specs.declared.view.Role.TheVariants.{Idle, Holder, Joining, Spent}
 use Rattle.srs_turn.specs.declared.view.View.{View}
 use Rattle.srs_turn.specs.Prefixes.{Begins, longer}
-use Rattle.srs_turn.specs.TurnWords.{knows, spent_view, Fits, IsHeldBy, joining_view, IsIdle, Counted, Looked, Freed, Compared, first_view, IsHome, IsTurnTable, Tried, Grew}
+use Rattle.srs_turn.specs.TurnWords.{knows, spent_view, Fits, IsHeldBy, joining_view, IsIdle, Counted, Rested, Freed, Compared, first_view, IsHome, IsTurnTable, Tried, Grew}
 use Rattle.srs_turn.proofs.PrefixLemmas.{begins_refl, begins_trans, begins_either, longer_begins}
 
 -- a seat with nothing in hand is no holder
@@ -78,11 +78,12 @@ module _ {B E F : Type 0} (told : B → List E) (fixed : B → F) (f : F) where
   zero_one e = absurd (omega arith)
 
   -- the first table keeps the rule
-  pub starts : (book : B) → fixed book ≡ f → Rule (opening (0 ∷ length (told book) ∷ []) (Some book ∷ []) (first_view told fixed book))
+  pub starts : (book : B) → fixed book ≡ f → Rule (opening (0 ∷ length (told book) ∷ 0 ∷ []) (Some book ∷ []) (first_view told fixed book))
   starts book is = record {
     lock = 0;
     list = told book;
     holder = 0;
+    asleep = 0;
     words = refl;
     home = (book, refl, refl, is);
     held = λ e. absurd (zero_one e);
@@ -99,13 +100,14 @@ module _ {B E F : Type 0} (told : B → List E) (fixed : B → F) (f : F) where
     lock = r.lock;
     list = r.list;
     holder = r.holder;
+    asleep = r.asleep;
     words = same i two;
     home = r.home;
     held = held;
     each = each_but (fits s r) (fits s r) s.views me w mine (λ j v _ h. h) r.each;
   }
     where
-      same : (i : ℕ) → i < 2 → set s.words i (get_or s.words i 0) ≡ r.lock ∷ length r.list ∷ []
+      same : (i : ℕ) → i < 2 → set s.words i (get_or s.words i 0) ≡ r.lock ∷ length r.list ∷ r.asleep ∷ []
       same zero two = ap (λ (ws : List ℕ). set ws 0 (get_or ws 0 0)) r.words
       same (suc zero) two = ap (λ (ws : List ℕ). set ws 1 (get_or ws 1 0)) r.words
       same (suc (suc i)) two = absurd (omega arith)
@@ -125,15 +127,30 @@ module _ {B E F : Type 0} (told : B → List E) (fixed : B → F) (f : F) where
   pub counts : (slots id : ℕ) (m : M) → IsIdle m → Allows Rule slots id m 1 (λ n. n) (Counted (step slots 1 0 0 none) m)
   counts slots id m h = subst (λ (m : M). Allows Rule slots id m 1 (λ n. n) (Counted (step slots 1 0 0 none) m)) (as_idle m h) (counts_at slots id m.0.seen m.0.fixed)
 
-  -- the load of the turn
-  looks_at : (slots id : ℕ) (seen : List E) (g : Option F) → Allows Rule slots id (knows Idle seen g, []) 0 (λ n. n) (Looked (step slots 0 0 0 none) (knows Idle seen g, []))
-  looks_at slots id seen g s r long at lt =
+  -- a change of the third word
+  rests_at : (slots id : ℕ) (seen : List E) (g : Option F) (to : ℕ → ℕ) (k : ℕ) → Allows Rule slots id (knows Idle seen g, []) 2 to (Rested (step slots 2 k 0 none) (knows Idle seen g, []))
+  rests_at slots id seen g to k s r long at lt =
       let w : V = knows Idle seen g in
-      (w, keeps, tt, unmoved s r 0 id [] w (omega arith) (r.each id w at) (held_other r.lock r.holder id s.views w w at not_holder_idle r.held), refl)
+      (
+        w,
+        keeps,
+        tt,
+        record {
+          lock = r.lock;
+          list = r.list;
+          holder = r.holder;
+          asleep = to (get_or s.words 2 0);
+          words = ap (λ (ws : List ℕ). set ws 2 (to (get_or s.words 2 0))) r.words;
+          home = r.home;
+          held = held_other r.lock r.holder id s.views w w at not_holder_idle r.held;
+          each = each_but (fits s r) (fits s r) s.views id w (r.each id w at) (λ j v _ h. h) r.each;
+        },
+        refl,
+      )
 
   -- the same of each seat that holds nothing
-  pub looks : (slots id : ℕ) (m : M) → IsIdle m → Allows Rule slots id m 0 (λ n. n) (Looked (step slots 0 0 0 none) m)
-  looks slots id m h = subst (λ (m : M). Allows Rule slots id m 0 (λ n. n) (Looked (step slots 0 0 0 none) m)) (as_idle m h) (looks_at slots id m.0.seen m.0.fixed)
+  pub rests : (slots id : ℕ) (m : M) (to : ℕ → ℕ) (k : ℕ) → IsIdle m → Allows Rule slots id m 2 to (Rested (step slots 2 k 0 none) m)
+  rests slots id m to k h = subst (λ (m : M). Allows Rule slots id m 2 to (Rested (step slots 2 k 0 none) m)) (as_idle m h) (rests_at slots id m.0.seen m.0.fixed to k)
 
   -- what a step owes, at a table whose words and slots are known
   abbrev Goes : List ℕ → List (mathlib.Core.Option.Option (Option B)) → List V → ℕ → M → ℕ → (ℕ → ℕ) → (ℕ → M → Type 0) → Type 0
@@ -146,9 +163,9 @@ module _ {B E F : Type 0} (told : B → List E) (fixed : B → F) (f : F) where
   Each lock list holder views = (id : ℕ) (v : V) → get_elem? views id ≡ some v → Fits lock list f holder id v.seen v.fixed v.role
 
   -- the compare-exchange where the turn is free
-  wins_free : (slots id holder : ℕ) (seen list : List E) (g : Option F) (views : List V) (book : B) → told book ≡ list → fixed book ≡ f → Each 0 list holder views → get_elem? views id ≡ some (knows Idle seen g)
-      → Goes (0 ∷ length list ∷ []) (some (Some book) ∷ []) views id (knows Idle seen g, []) 0 (λ n. either (n == 0) 1 n) (Tried told fixed (step slots 0 0 1 none) (knows Idle seen g, []))
-  wins_free slots id holder seen list g views book lists fixes each at =
+  wins_free : (slots id holder asleep : ℕ) (seen list : List E) (g : Option F) (views : List V) (book : B) → told book ≡ list → fixed book ≡ f → Each 0 list holder views → get_elem? views id ≡ some (knows Idle seen g)
+      → Goes (0 ∷ length list ∷ asleep ∷ []) (some (Some book) ∷ []) views id (knows Idle seen g, []) 0 (λ n. either (n == 0) 1 n) (Tried told fixed (step slots 0 0 1 none) (knows Idle seen g, []))
+  wins_free slots id holder asleep seen list g views book lists fixes each at =
       let mine = each id (knows Idle seen g) at in
       let w : V = knows Holder list g in (
         w,
@@ -158,6 +175,7 @@ module _ {B E F : Type 0} (told : B → List E) (fixed : B → F) (f : F) where
           lock = 1;
           list = list;
           holder = id;
+          asleep = asleep;
           words = refl;
           home = (refl, refl);
           held = λ _. (w, set_some views id w (knows Idle seen g) at, refl);
@@ -168,9 +186,9 @@ module _ {B E F : Type 0} (told : B → List E) (fixed : B → F) (f : F) where
       )
 
   -- the compare-exchange where the turn is held
-  wins_taken : (slots id holder : ℕ) (seen list : List E) (g : Option F) (views : List V) → IsHeldBy 1 holder views → Each 1 list holder views → get_elem? views id ≡ some (knows Idle seen g)
-      → Goes (1 ∷ length list ∷ []) (none ∷ []) views id (knows Idle seen g, []) 0 (λ n. either (n == 0) 1 n) (Tried told fixed (step slots 0 0 1 none) (knows Idle seen g, []))
-  wins_taken slots id holder seen list g views held each at =
+  wins_taken : (slots id holder asleep : ℕ) (seen list : List E) (g : Option F) (views : List V) → IsHeldBy 1 holder views → Each 1 list holder views → get_elem? views id ≡ some (knows Idle seen g)
+      → Goes (1 ∷ length list ∷ asleep ∷ []) (none ∷ []) views id (knows Idle seen g, []) 0 (λ n. either (n == 0) 1 n) (Tried told fixed (step slots 0 0 1 none) (knows Idle seen g, []))
+  wins_taken slots id holder asleep seen list g views held each at =
       let mine = each id (knows Idle seen g) at in
       let w : V = knows Idle seen g in
       let P : ℕ → V → Type 0 = λ j v. Fits 1 list f holder j v.seen v.fixed v.role in (
@@ -181,6 +199,7 @@ module _ {B E F : Type 0} (told : B → List E) (fixed : B → F) (f : F) where
           lock = 1;
           list = list;
           holder = holder;
+          asleep = asleep;
           words = refl;
           home = (refl, refl);
           held = held_other 1 holder id views (knows Idle seen g) w at not_holder_idle held;
@@ -190,20 +209,20 @@ module _ {B E F : Type 0} (told : B → List E) (fixed : B → F) (f : F) where
       )
 
   -- the compare-exchange at a table whose first word is known
-  wins_from : (slots id holder lock : ℕ) (seen list : List E) (g : Option F) (homes : List (mathlib.Core.Option.Option (Option B))) (views : List V) → IsHome told fixed lock list f homes → IsHeldBy lock holder views → Each lock list holder views
-      → get_elem? views id ≡ some (knows Idle seen g) → Goes (lock ∷ length list ∷ []) homes views id (knows Idle seen g, []) 0 (λ n. either (n == 0) 1 n) (Tried told fixed (step slots 0 0 1 none) (knows Idle seen g, []))
-  wins_from slots id holder zero seen list g homes views home held each at =
-      subst (λ (hs : List (mathlib.Core.Option.Option (Option B))). Goes (0 ∷ length list ∷ []) hs views id (knows Idle seen g, []) 0 (λ n. either (n == 0) 1 n) (Tried told fixed (step slots 0 0 1 none) (knows Idle seen g, []))) (sym home.1)
-      (wins_free slots id holder seen list g views home.0 home.2 home.3 each at)
-  wins_from slots id holder (suc k) seen list g homes views home held each at =
-      subst (λ (x : ℕ × List (mathlib.Core.Option.Option (Option B))). IsHeldBy (suc x.0) holder views → Each (suc x.0) list holder views → Goes (suc x.0 ∷ length list ∷ []) x.1 views id (knows Idle seen g, []) 0 (λ n. either (n == 0) 1 n) (Tried told fixed (step slots 0 0 1 none) (knows Idle seen g, [])))
-      (λ i. (sym home.0 i, sym home.1 i)) (λ held each. wins_taken slots id holder seen list g views held each at) held each
+  wins_from : (slots id holder asleep lock : ℕ) (seen list : List E) (g : Option F) (homes : List (mathlib.Core.Option.Option (Option B))) (views : List V) → IsHome told fixed lock list f homes → IsHeldBy lock holder views → Each lock list holder views
+      → get_elem? views id ≡ some (knows Idle seen g) → Goes (lock ∷ length list ∷ asleep ∷ []) homes views id (knows Idle seen g, []) 0 (λ n. either (n == 0) 1 n) (Tried told fixed (step slots 0 0 1 none) (knows Idle seen g, []))
+  wins_from slots id holder asleep zero seen list g homes views home held each at =
+      subst (λ (hs : List (mathlib.Core.Option.Option (Option B))). Goes (0 ∷ length list ∷ asleep ∷ []) hs views id (knows Idle seen g, []) 0 (λ n. either (n == 0) 1 n) (Tried told fixed (step slots 0 0 1 none) (knows Idle seen g, []))) (sym home.1)
+      (wins_free slots id holder asleep seen list g views home.0 home.2 home.3 each at)
+  wins_from slots id holder asleep (suc k) seen list g homes views home held each at =
+      subst (λ (x : ℕ × List (mathlib.Core.Option.Option (Option B))). IsHeldBy (suc x.0) holder views → Each (suc x.0) list holder views → Goes (suc x.0 ∷ length list ∷ asleep ∷ []) x.1 views id (knows Idle seen g, []) 0 (λ n. either (n == 0) 1 n) (Tried told fixed (step slots 0 0 1 none) (knows Idle seen g, [])))
+      (λ i. (sym home.0 i, sym home.1 i)) (λ held each. wins_taken slots id holder asleep seen list g views held each at) held each
 
   -- the compare-exchange at each table
   pub wins : (slots id : ℕ) (m : M) → IsIdle m → Allows Rule slots id m 0 (λ n. either (n == 0) 1 n) (Tried told fixed (step slots 0 0 1 none) m)
   wins slots id m h = subst (λ (m : M). Allows Rule slots id m 0 (λ n. either (n == 0) 1 n) (Tried told fixed (step slots 0 0 1 none) m)) (as_idle m h)
       (λ s r long at lt. subst (λ (ws : List ℕ). Goes ws s.homes s.views id (knows Idle m.0.seen m.0.fixed, []) 0 (λ n. either (n == 0) 1 n) (Tried told fixed (step slots 0 0 1 none) (knows Idle m.0.seen m.0.fixed, []))) (sym r.words)
-      (wins_from slots id r.holder r.lock m.0.seen r.list m.0.fixed s.homes s.views r.home r.held r.each at))
+      (wins_from slots id r.holder r.asleep r.lock m.0.seen r.list m.0.fixed s.homes s.views r.home r.held r.each at))
 
   -- while the turn is held, its slot is empty, whatever the list is
   home_held : (lock : ℕ) (list list' : List E) (homes : List (mathlib.Core.Option.Option (Option B))) → lock ≡ 1 → IsHome told fixed lock list f homes → IsHome told fixed lock list' f homes
@@ -228,7 +247,8 @@ module _ {B E F : Type 0} (told : B → List E) (fixed : B → F) (f : F) where
           lock = r.lock;
           list = told book;
           holder = r.holder;
-          words = ap (λ (ws : List ℕ). set ws 1 n) r.words ∙ ap (λ (k : ℕ). r.lock ∷ k ∷ []) is;
+          asleep = r.asleep;
+          words = ap (λ (ws : List ℕ). set ws 1 n) r.words ∙ ap (λ (k : ℕ). r.lock ∷ k ∷ r.asleep ∷ []) is;
           home = home_held r.lock r.list (told book) s.homes mine.0 r.home;
           held = λ _. (w, ap (get_elem? (set s.views id w)) mine.1 ∙ set_some s.views id w (knows Holder seen g) at, refl);
           each = each_but (fits s r) (λ j v. Fits r.lock (told book) f r.holder j v.seen v.fixed v.role) s.views id w (mine.0, mine.1, refl, mine.3)
@@ -260,6 +280,7 @@ module _ {B E F : Type 0} (told : B → List E) (fixed : B → F) (f : F) where
           lock = 0;
           list = r.list;
           holder = id;
+          asleep = r.asleep;
           words = ap (λ (ws : List ℕ). set ws 0 0) r.words;
           home = (book, ap (λ hs. set hs 0 (some (Some book))) (empty_home r.lock r.list s.homes mine.0 r.home), lists ∙ mine.2, some_same _ _ (sym fixes ∙ mine.3));
           held = λ e. absurd (zero_one e);
@@ -275,6 +296,7 @@ module _ {B E F : Type 0} (told : B → List E) (fixed : B → F) (f : F) where
     lock = r.lock;
     list = r.list;
     holder = r.holder;
+    asleep = r.asleep;
     words = r.words;
     home = r.home;
     held = λ one. let h = r.held one in (h.0, at_longer _ _ r.holder h.0 (ap (λ vs. get_elem? vs r.holder) (set_again s.views id (knows Idle seen g) at) ∙ h.1), h.2);
@@ -295,6 +317,7 @@ module _ {B E F : Type 0} (told : B → List E) (fixed : B → F) (f : F) where
         lock = r.lock;
         list = r.list;
         holder = r.holder;
+        asleep = r.asleep;
         words = r.words;
         home = r.home;
         held = held_other r.lock r.holder other (set s.views id w) (knows Idle told_of h) spent_view there not_holder_idle (held_other r.lock r.holder id s.views (knows Idle seen g) w at not_holder_idle r.held);

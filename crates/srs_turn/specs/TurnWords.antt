@@ -55,8 +55,8 @@ module _ {S E F : Type 0} where
   Counted step old found new = IsIdle new × (new.0.fixed ≡ old.0.fixed) × Begins old.0.seen new.0.seen × (length new.0.seen ≡ found)
 
   -- the seat is as before
-  abbrev pub Looked : Step S → Me S (View E F) → ℕ → Me S (View E F) → Type 0
-  Looked step old found new = new ≡ old
+  abbrev pub Rested : Step S → Me S (View E F) → ℕ → Me S (View E F) → Type 0
+  Rested step old found new = new ≡ old
 
   -- the seat gave up the turn, with its book
   abbrev pub Freed : Step S → Me S (View E F) → ℕ → Me S (View E F) → Type 0
@@ -78,12 +78,13 @@ module _ {B E F : Type 0} (told : B → List E) (fixed : B → F) where
   IsHome zero list f homes = (book : B) × (homes ≡ some (Some book) ∷ []) × (told book ≡ list) × (fixed book ≡ f)
   IsHome (suc k) list f homes = (k ≡ 0) × (homes ≡ none ∷ [])
 
-  -- There is one list, which the second word counts. All seats have seen beginnings of it, and one at most holds the book.
+  -- There is one list, which the second word counts. All seats have seen beginnings of it, and one at most holds the book. Nothing is kept of the third word.
   pub record IsTurnTable (f : F) (s : State (Option B) (View E F)) : Type 0 where
     pub lock : ℕ
     pub list : List E
     pub holder : ℕ
-    pub words : s.words ≡ lock ∷ length list ∷ []
+    pub asleep : ℕ
+    pub words : s.words ≡ lock ∷ length list ∷ asleep ∷ []
     pub home : IsHome lock list f s.homes
     pub held : IsHeldBy lock holder s.views
     pub each : (id : ℕ) (v : View E F) → get_elem? s.views id ≡ some v → Fits lock list f holder id v.seen v.fixed v.role

@@ -6,12 +6,12 @@ ghost use Rattle.srs_turn.specs.Holding.{WaitsFor, StillWaits, HoldsWithBookOut,
 
 use crate::told::Told;
 use crate::turn::Turn;
-use crate::view::{Freeing, Growing, Looking, View, Winning};
+use crate::view::{Freeing, Growing, Resting, View, Winning};
 use atomic_table::Seat;
 use std::sync::Wait;
 
-// So often does a seat try for a turn that is held before it sleeps. A try is mostly a look at a word
-// that the waiting seats share, so that the holder isn't hindered by it.
+// So often does a seat try for a turn that is held before it sleeps. A try is mostly a look at a
+// word that the waiting seats share, so that the holder isn't hindered by it.
 const TRIES: u32 = 2000;
 
 // A seat of a turn round a `B`. While it holds the turn it is no pass, so these steps are on seats.
@@ -30,9 +30,21 @@ impl<B: Told> Turn<B> {
             if let Some(book) = self.try_often(seat) {
                 return book;
             }
-            self.table.shared.park(rt, 0, 1);
+            self.rest(rt, seat);
         }
         unreachable!()
+    }
+
+    // Sleeps while the turn is held. The seat counts itself among those who sleep before it does, and
+    // who gives up the turn looks at their number after that: one of the two sees what the other did.
+    fn rest<R: Wait>(&self, rt: &R, seat: &mut SeatOf<B>)
+        requires { WaitsFor self.now seat.old }
+        ensures { StillWaits seat.old seat.new }
+    {
+        let shared = &self.table.shared;
+        shared.fetch_add::<Resting>(seat, 2, 1);
+        shared.park(rt, 0, 1);
+        shared.fetch_sub::<Resting>(seat, 2, 1);
     }
 
     // As `try_take`, up to `TRIES` times.
@@ -63,7 +75,7 @@ impl<B: Told> Turn<B> {
         ensures none { IfNone result (StillWaits seat.old seat.new) }
     {
         let shared = &self.table.shared;
-        if shared.load::<Looking>(seat, 0) != 0 {
+        if shared.peek(0) != 0 {
             return None;
         }
         let found = shared.compare_exchange::<Winning<B>>(seat, 0, 0, 1);
@@ -76,8 +88,8 @@ impl<B: Told> Turn<B> {
         Some(book)
     }
 
-    // Puts the book back, whose list had `was` entries, and gives up the turn. The book is in its
-    // slot before its length is stored: only the list of a book in a slot can be what a step tells.
+    // Puts the book back, whose list had `was` entries, gives up the turn, and wakes a seat where any
+    // sleeps. The book is in its slot before its length is stored: only the list of a book in a slot can be what a step tells.
     pub(crate) fn give(&self, seat: &mut SeatOf<B>, book: B, was: u64)
         requires held { HoldsWithBookOut self.now seat.old }
         requires was { was ≡ length (seen_by seat.old) }
@@ -92,7 +104,9 @@ impl<B: Told> Turn<B> {
         let None = empty else { unreachable!() };
         self.store_count(seat, was, count);
         shared.store::<Freeing>(seat, 0, 0);
-        shared.wake_one(0);
+        if shared.peek(2) != 0 {
+            shared.wake_one(0);
+        }
     }
 
     // Counts the new entry, if the book in the slot has one.

@@ -30,7 +30,7 @@ impl<B: Told> Model for Turn<B> {
 
     ghost view = { λ t. record { table = t.table.shared.table_id; fixed = B.fixed t.table.shared.key.value } };
 
-    ghost invariant = { λ t. (t.table.shared.table_id.words ≡ 2) × (t.table.shared.table_id.slots ≡ 1) };
+    ghost invariant = { λ t. (t.table.shared.table_id.words ≡ 3) × (t.table.shared.table_id.slots ≡ 1) };
 }
 
 /// What one thread knows of a turn. It takes no bytes. It is seen as its turn, with the turn's
@@ -72,7 +72,7 @@ impl<B: Told> Turn<B> {
             return Err((book, NoMemory));
         }
         slots.push_reserved(Some(book));
-        match Table::new(alloc, &[0, count], slots, &first) {
+        match Table::new(alloc, &[0, count, 0], slots, &first) {
             Ok((table, seat)) => Ok((Turn { table }, Pass { seat })),
             Err(Refused { mut slots }) => {
                 let Some(Some(book)) = slots.pop() else {

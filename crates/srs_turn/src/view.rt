@@ -1,5 +1,6 @@
 // What a seat at the table of a turn knows, and what its steps tell. Word 0 is 1 while a seat holds
-// the turn, and else 0. Word 1 is the length of the book's list. Slot 0 has the book.
+// the turn, and else 0. Word 1 is the length of the book's list. Word 2 is how many seats sleep, or
+// are about to. Slot 0 has the book.
 use crate::told::Told;
 use atomic_table::{Join, Play, Split, TableRule};
 use std::collections::LinkedList;
@@ -61,15 +62,6 @@ impl<S, E, F> Play<S, View<E, F>> for Counting {
     ghost then = { Counted };
 }
 
-// What the load of the turn tells: the seat is as before.
-pub struct Looking;
-
-impl<S, E, F> Play<S, View<E, F>> for Looking {
-    ghost use Rattle.srs_turn.specs.TurnWords.{Looked};
-
-    ghost then = { Looked };
-}
-
 // What the compare-exchange of the turn tells.
 pub struct Winning<B> {
     book: PhantomData<B>,
@@ -90,6 +82,15 @@ impl<B: Told> Play<Option<B>, View<B::Entry, B::Fixed>> for Growing<B> {
     ghost use Rattle.srs_turn.specs.TurnWords.{Grew};
 
     ghost then = { Grew B.told };
+}
+
+// What a change of the number of those who sleep tells: the seat is as before.
+pub struct Resting;
+
+impl<S, E, F> Play<S, View<E, F>> for Resting {
+    ghost use Rattle.srs_turn.specs.TurnWords.{Rested};
+
+    ghost then = { Rested };
 }
 
 // What the store of the turn tells.

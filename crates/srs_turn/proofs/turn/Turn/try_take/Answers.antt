@@ -1,13 +1,9 @@
-use Rattle.std.proofs.Common.{rules, subst, sym, Some}
-use Rattle.srs_turn.specs.TurnWords.{IsIdle}
-use Rattle.srs_turn.proofs.TurnSteps.{looks, wins, slot_last}
+use Rattle.std.proofs.Common.{rules, Some}
+use Rattle.srs_turn.proofs.TurnSteps.{wins, slot_last}
 use Rattle.srs_turn.proofs.turn.Turn.try_take.Goals as goal
 
-pub load-requires : goal.load-requires
-load-requires g c = (search rules, search rules, looks _ _ _ _ _ _ c.requires.1)
-
 pub compare_exchange-found-requires : goal.compare_exchange-found-requires
-compare_exchange-found-requires g c = (search rules, search rules, wins _ _ _ _ _ _ (subst (λ m. IsIdle m) (sym c.load.ensures.2) c.requires.1))
+compare_exchange-found-requires g c = (search rules, search rules, wins _ _ _ _ _ _ c.requires.1)
 
 pub exchange-requires : goal.exchange-requires
 exchange-requires g c =
