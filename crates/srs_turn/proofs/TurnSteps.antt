@@ -130,8 +130,7 @@ module _ {B E F : Type 0} (told : B → List E) (fixed : B → F) (f : F) where
   -- a change of the third word
   rests_at : (slots id : ℕ) (seen : List E) (g : Option F) (to : ℕ → ℕ) (k : ℕ) → Allows Rule slots id (knows Idle seen g, []) 2 to (Rested (step slots 2 k 0 none) (knows Idle seen g, []))
   rests_at slots id seen g to k s r long at lt =
-      let w : V = knows Idle seen g in
-      (
+      let w : V = knows Idle seen g in (
         w,
         keeps,
         tt,
