@@ -1,4 +1,5 @@
 pub mod Frontiers
 pub mod Books
+pub mod Offers
 pub mod Commits
 pub mod Counting
