@@ -28,11 +28,12 @@ use Rattle.srs_tree.proofs.PlannedSteps.{IsPlanned-append, IsPlanned-empty}
 use Rattle.srs_tree.proofs.StandsLemmas.{Stands-append, Stands-empty}
 use Rattle.srs_tree.proofs.QueueLemmas.{queue_is, queue-append, from_filter}
 use Rattle.std.specs.Arc.{arc_value}
+use Rattle.srs_tree.specs.Ahead.{AreMadeBy}
 use Rattle.srs_atlas.specs.declared.book.Terms.{Terms}
 use Rattle.srs_atlas.specs.declared.commits.Commit.{Commit}
 use Rattle.srs_atlas.specs.declared.commits.Commit.TheVariants.{Done as IsDone}
 use Rattle.srs_atlas.specs.Books.{AreTerms, IsLawful, cell_at, waiting_in, terms_of, IsBook}
-use Rattle.srs_atlas.specs.Commits.{event_at, FitsPlan, IsReady, IsWelcome, RepliesWith, Commits, commit_of}
+use Rattle.srs_atlas.specs.Commits.{event_at, FitsPlan, IsReady, IsPrepared, IsWelcome, RepliesWith, Commits, commit_of}
 
 -- what a snapshot says of the cells of its history
 module _ (Root : Area) (H : History) (v : Snapshot) (stands : StandsFor Root H v) where
@@ -193,3 +194,10 @@ pub ready_later : (terms same : Terms) (seen list : History) (path : List Side) 
     → ((start : History) × Begins start seen × ((L : Budget) → terms.plan ≡ Some L → FitsPlan terms.root L start path f.outcome)) → IsReady same list path f
 ready_later terms same seen list path f t b w short planned =
     subst (λ (u : Terms). IsReady u list path f) (sym t) (record { w = w; short = short; planned = (planned.0, begins_trans planned.0 seen list planned.1 b, planned.2) })
+
+-- the same, with what was made ahead
+pub prepared_later : (terms same : Terms) (seen list : History) (path : List Side) (f : Found) (parts : Option (WaitingCell × WaitingCell)) → same ≡ terms → Begins seen list → f.w ≡ terms.w → IsShortCut path f.outcome
+    → ((start : History) × Begins start seen × ((L : Budget) → terms.plan ≡ Some L → FitsPlan terms.root L start path f.outcome))
+    → AreMadeBy (record { path = path; region = f.region }) f.outcome parts → IsPrepared same list path f parts
+prepared_later terms same seen list path f parts t b w short planned made =
+    record { ready = ready_later terms same seen list path f t b w short planned; ahead = made }

@@ -1,5 +1,6 @@
 -- When a finding may be committed, and what is answered.
 use Rattle.std.specs.Prelude.{◌≡◌, ◌≢◌, ◌++◌, [], ◌∷◌, List, length, Some}
+use Rattle.std.specs.declared.option.Option.{Option}
 use Rattle.std.specs.Arc.{arc_value}
 use Rattle.srs_plane.specs.Regions.{Area}
 use Rattle.srs_path.specs.declared.paths.Side.{Side}
@@ -11,6 +12,8 @@ use Rattle.srs_tree.specs.declared.refusals.TreeErr.TheVariants.{NotThere, Done,
 use Rattle.srs_tree.specs.Tree.{History, outcome_at, IsCellOf, region_at}
 use Rattle.srs_tree.specs.Rounds.{MayComeNext}
 use Rattle.srs_tree.specs.Growth.{IsOpenIn, IsShortCut, IsLongestCell}
+use Rattle.srs_tree.specs.Queue.{WaitingCell}
+use Rattle.srs_tree.specs.Ahead.{AreMadeBy}
 use Rattle.srs_atlas.specs.declared.book.Terms.{Terms}
 use Rattle.srs_atlas.specs.declared.commits.Commit.{Commit}
 use Rattle.srs_atlas.specs.declared.commits.Commit.TheVariants.{Done as IsDone, Late as IsLate, NotThere as IsNotThere, OtherCell as IsOtherCell, NoMemory as IsNoMemory}
@@ -32,6 +35,11 @@ pub record IsReady (terms : Terms) (H : History) (path : List Side) (f : Found) 
   pub w : f.w ≡ terms.w
   pub short : IsShortCut path f.outcome
   pub planned : (start : History) × Begins start H × ((L : Budget) → terms.plan ≡ Some L → FitsPlan terms.root L start path f.outcome)
+
+-- the finding is ready, and the cells that were made of it ahead, if there are any, are those that it makes of its cell
+pub record IsPrepared (terms : Terms) (H : History) (path : List Side) (f : Found) (parts : Option (WaitingCell × WaitingCell)) : Type 0 where
+  pub ready : IsReady terms H path f
+  pub ahead : AreMadeBy (record { path = path; region = f.region }) f.outcome parts
 
 -- the finding is of an open cell's region
 pub record IsWelcome (Root : Area) (H : History) (path : List Side) (f : Found) : Type 0 where

@@ -1,5 +1,5 @@
 -- Counts of cells.
-use Rattle.std.specs.Prelude.{◌≡◌, ℕ, ◌≤◌, ◌==◌, nat_le, if◌then◌else◌, length, count_by}
+use Rattle.std.specs.Prelude.{◌≡◌, ℕ, ◌≤◌, ◌==◌, nat_le, if◌then◌else◌, List, length, count_by}
 use Rattle.srs_path.specs.Views.{Entry}
 use Rattle.srs_tree.specs.Tree.{History}
 use Rattle.srs_tree.specs.Rounds.{parts_by, upto, row_of}

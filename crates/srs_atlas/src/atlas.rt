@@ -11,14 +11,13 @@ ghost use Rattle.srs_atlas.specs.Counting.{AreCounts};
 ghost use Rattle.srs_atlas.specs.Commits.{FitsPlan, RepliesWith};
 
 use crate::book::Book;
-use crate::commits::Commit;
+use crate::commits::{Commit, ahead_of, prepared};
 use crate::counts::Counts;
-use crate::offers::Offer;
 use crate::operations::{Count, Enter, List, Share};
 use srs_cell::Cell;
 use srs_num::NoMemory;
 use srs_path::{Finding, Limits, Path};
-use srs_tree::{Journal, PendingList, Version};
+use srs_tree::{Ahead, Journal, Pending, PendingList, Version};
 use srs_turn::{Pass, Turn};
 use std::alloc::Global;
 use std::marker::Model;
@@ -139,30 +138,54 @@ impl Atlas {
         ensures seen { Begins pass.old.seen pass.new.seen }
         ensures lawful { IsLawful self.now.fixed pass.new.seen }
     {
-        self.commit_offer(rt, alloc, pass, Offer::of(alloc, path, f))
+        self.turn.with_turn(
+            rt,
+            pass,
+            Enter {
+                alloc,
+                path,
+                finding: prepared(alloc, f),
+                ahead: Ahead {
+                    parts: None,
+                    near: 0,
+                },
+            },
+        )
     }
 
-    /// As `commit`, with what was made of the finding before the turn.
-    pub fn commit_offer<R: Wait>(
+    /// As `commit`, at the path of the cell, for a finding of its region mostly: the cells that a cut
+    /// makes are made before the turn, and the tree looks first where the cell was.
+    pub fn commit_at<R: Wait>(
         &self,
         rt: &R,
         alloc: Global,
         pass: &mut AtlasPass,
-        offer: Offer,
+        cell: &Pending,
+        f: Finding,
     ) -> Commit
         requires own { IsPassOf self.now pass.old }
-        requires w { offer.finding.w ≡ self.now.fixed.w }
-        requires short { IsShortCut offer.path offer.finding.outcome }
+        requires w { f.w ≡ self.now.fixed.w }
+        requires short { IsShortCut cell.now.path f.outcome }
         requires planned { (start : History) × Begins start pass.old.seen ×
             ((L : Budget) → self.now.fixed.plan ≡ Some L →
-            FitsPlan self.now.fixed.root L start offer.path offer.finding.outcome) }
+            FitsPlan self.now.fixed.root L start cell.now.path f.outcome) }
         ensures own { IsPassOf self.now pass.new }
         ensures did { (before : History) × Begins pass.old.seen before ×
-            RepliesWith self.now.fixed before offer.path offer.finding result pass.new.seen }
+            RepliesWith self.now.fixed before cell.now.path f result pass.new.seen }
         ensures seen { Begins pass.old.seen pass.new.seen }
         ensures lawful { IsLawful self.now.fixed pass.new.seen }
     {
-        self.turn.with_turn(rt, pass, Enter { alloc, offer })
+        let ahead = ahead_of(alloc, cell, &f);
+        self.turn.with_turn(
+            rt,
+            pass,
+            Enter {
+                alloc,
+                path: cell.path,
+                finding: prepared(alloc, f),
+                ahead,
+            },
+        )
     }
 
     /// Waits for the turn, and shares the newest version. An `Err` is want of memory.

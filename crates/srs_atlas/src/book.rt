@@ -4,17 +4,16 @@ ghost use Rattle.srs_turn.specs.Prefixes.{AddsAtMostOne};
 ghost use Rattle.srs_tree.specs.Snapshots.{StandsFor};
 ghost use Rattle.srs_atlas.specs.Books.{AreTerms, IsLawful, waiting_in};
 ghost use Rattle.srs_atlas.specs.Counting.{AreCounts};
-ghost use Rattle.srs_atlas.specs.Commits.{IsReady, Commits};
+ghost use Rattle.srs_atlas.specs.Commits.{IsPrepared, Commits};
 
 use crate::commits::{Commit, refused};
 use crate::counts::{Counts, counts_of};
 use crate::frontier::{Frontier, paths_of};
-use crate::offers::Offer;
 use srs_cell::Cell;
 use srs_num::NoMemory;
-use srs_path::{Event, Limits};
+use srs_path::{Event, Finding, Limits, Path};
 use srs_plane::Region;
-use srs_tree::{GrowingTree, Journal, PendingList, Version};
+use srs_tree::{Ahead, GrowingTree, Journal, PendingList, Version};
 use srs_turn::Told;
 use std::alloc::Global;
 use std::marker::Model;
@@ -87,19 +86,14 @@ impl Book {
         })
     }
 
-    // The finding comes to the cell at its path. All memory is taken before anything changes.
-    pub(crate) fn enter(&mut self, alloc: Global, offer: Offer) -> Commit
-        requires { IsReady self.old.terms self.old.history offer.path offer.finding }
-        ensures did { Commits self.old.terms offer.path offer.finding
-            self.old.history result self.new.history }
+    // The finding comes to the cell at the path, with what was made of it ahead. All memory is taken
+    // before anything changes.
+    pub(crate) fn enter(&mut self, alloc: Global, path: Path, f: Finding, ahead: Ahead) -> Commit
+        requires { IsPrepared self.old.terms self.old.history path f ahead.parts }
+        ensures did { Commits self.old.terms path f self.old.history result self.new.history }
         ensures grown { AddsAtMostOne self.old.history self.new.history }
         ensures terms { self.new.terms ≡ self.old.terms }
     {
-        let Offer {
-            path,
-            finding: f,
-            ahead,
-        } = offer;
         // A finding is sound.
         let _ = f.w();
         if self.events.reserve(1).is_err() {

@@ -7,7 +7,6 @@ mod commits;
 mod counts;
 mod frontier;
 mod lists;
-mod offers;
 mod operations;
 mod sharing;
 
@@ -16,6 +15,5 @@ pub use book::{Book, Terms};
 pub use commits::Commit;
 pub use counts::Counts;
 pub use lists::shared_cell;
-pub use offers::Offer;
 pub use sharing::shared;
 pub use srs_tree::PendingList;

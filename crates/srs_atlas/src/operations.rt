@@ -2,30 +2,38 @@
 use crate::book::Book;
 use crate::commits::Commit;
 use crate::counts::Counts;
-use crate::offers::Offer;
 use srs_num::NoMemory;
-use srs_tree::{PendingList, Version};
+use srs_path::{Finding, Path};
+use srs_tree::{Ahead, PendingList, Version};
 use srs_turn::Act;
 use std::alloc::Global;
 
-// Enters the finding at its path.
+// Enters the finding at the path, with what was made of it ahead.
 #[derive(Drop)]
 pub struct Enter {
     pub alloc: Global,
-    pub offer: Offer,
+    pub path: Path,
+    pub finding: Finding,
+    pub ahead: Ahead,
 }
 
 impl Act<Book> for Enter {
     type Reply = Commit;
 
-    ghost use Rattle.srs_atlas.specs.Commits.{IsReady, Commits};
+    ghost use Rattle.srs_atlas.specs.Commits.{IsPrepared, Commits};
 
-    ghost ready = { λ op terms history. IsReady terms history op.offer.path op.offer.finding };
+    ghost ready = { λ op terms history. IsPrepared terms history op.path op.finding op.ahead.parts };
 
-    ghost did = { λ op terms before reply after. Commits terms op.offer.path op.offer.finding before reply after };
+    ghost did = { λ op terms before reply after. Commits terms op.path op.finding before reply after };
 
     fn act(self, book: &mut Book) -> Commit {
-        book.enter(self.alloc, self.offer)
+        let Enter {
+            alloc,
+            path,
+            finding,
+            ahead,
+        } = self;
+        book.enter(alloc, path, finding, ahead)
     }
 }
 

@@ -2,7 +2,7 @@
 ghost use Rattle.std.specs.Prelude.{◌≡◌, None};
 ghost use Rattle.srs_turn.specs.Passes.{IsPassOf};
 
-use srs_atlas::{Atlas, AtlasPass, Commit, Offer};
+use srs_atlas::{Atlas, AtlasPass, Commit};
 use srs_cell::Cell;
 use srs_path::{Outcome, Path, Side};
 use srs_refine::refine;
@@ -43,8 +43,7 @@ pub fn committed<R: Wait>(
     }
 }
 
-// As `committed`, with what is made of the finding before the turn. Where the cell says that it
-// stands, no cell stands.
+// As `committed`, by the call that is given the cell. Where it says that it stands, no cell stands.
 pub fn committed_at<R: Wait>(
     rt: &R,
     alloc: Global,
@@ -71,8 +70,7 @@ pub fn committed_at<R: Wait>(
         cell,
         place: 99,
     };
-    let offer = Offer::at(alloc, &cell, finding);
-    told_of(&atlas.commit_offer(rt, alloc, pass, offer))
+    told_of(&atlas.commit_at(rt, alloc, pass, &cell, finding))
 }
 
 pub fn told_of(commit: &Commit) -> Told {

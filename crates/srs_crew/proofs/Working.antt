@@ -16,11 +16,9 @@ use Rattle.srs_path.specs.declared.limits.Last.{Last}
 use Rattle.srs_path.specs.declared.outcomes.Outcome.{Outcome}
 use Rattle.srs_path.specs.declared.outcomes.Outcome.TheVariants.{Inside, Outside, Cut, Left}
 use Rattle.srs_path.specs.declared.outcomes.Cause.TheVariants.{Memory}
-use Rattle.srs_path.specs.Views.{Budget, Entry, Found}
+use Rattle.srs_path.specs.Views.{Budget, Found}
 use Rattle.srs_path.specs.Refinement.{Refines}
 use Rattle.srs_turn.specs.Prefixes.{Begins, longer}
-use Rattle.srs_turn.specs.Passes.{TurnId, Seen}
-use Rattle.srs_claim.specs.Drawings.{SeatOf}
 use Rattle.srs_turn.proofs.PrefixLemmas.{begins_refl, begins_trans}
 use Rattle.srs_tree.specs.Tree.{History, Tree, outcome_at, IsCellOf, region_at}
 use Rattle.srs_tree.specs.Legality.{IsLegal}
@@ -36,11 +34,9 @@ use Rattle.srs_tree.proofs.QueueLemmas.{queue_is}
 use Rattle.srs_atlas.specs.declared.book.Terms.{Terms}
 use Rattle.srs_atlas.specs.declared.commits.Commit.TheVariants.{Done, NotThere, OtherCell}
 use Rattle.srs_atlas.specs.Books.{AreTerms, IsLawful, cell_at, waiting_in}
-use Rattle.srs_atlas.specs.Offers.{Offered}
 use Rattle.srs_atlas.specs.Commits.{event_at, FitsPlan, RepliesWith}
 use Rattle.srs_atlas.proofs.Entries.{closed_stays}
-use Rattle.srs_crew.specs.declared.workers.Shift.{Shift}
-use Rattle.srs_crew.specs.Rounds.{IsPlanRound, IsRound, IsOfRound, IsWork, IsFoundIn, AreWork, MayWork, HasWorked, AreFromRound, TakesOfRound, IsRoundDone, AreDone}
+use Rattle.srs_crew.specs.Rounds.{IsPlanRound, IsRound, IsOfRound, IsWork, AreWork, AreFromRound, TakesOfRound, IsRoundDone, AreDone}
 
 -- what a longer history keeps
 module _ (G H : History) (b : Begins G H) where
@@ -90,7 +86,7 @@ module _ (terms : Terms) (seen : History) (last : Option Last) (c : WaitingCell)
     pub short : IsShortCut c.path f.outcome
     short = short_by f.outcome outcome
 
-    fits : AreTerms terms → (start : History) × Begins start seen × ((L : Budget) → terms.plan ≡ Some L → FitsPlan terms.root L start c.path f.outcome)
+    pub fits : AreTerms terms → (start : History) × Begins start seen × ((L : Budget) → terms.plan ≡ Some L → FitsPlan terms.root L start c.path f.outcome)
     fits bounds = (w.start, w.begins, by)
       where
         by : (L : Budget) → terms.plan ≡ Some L → FitsPlan terms.root L w.start c.path f.outcome
@@ -110,10 +106,10 @@ module _ (terms : Terms) (seen : History) (last : Option Last) (c : WaitingCell)
 
   -- what a commit's answer can't be
   module _ (f : Found) (before after : History) (b : Begins seen before) where
-    not_there : (p : List Side) → RepliesWith terms before c.path f (NotThere p) after → ⊥
+    pub not_there : (p : List Side) → RepliesWith terms before c.path f (NotThere p) after → ⊥
     not_there p a = a.1 (cell_stands before b)
 
-    not_other : (d : Arc Cell Global) → f.region ≡ c.region → IsLawful terms after → RepliesWith terms before c.path f (OtherCell d) after → ⊥
+    pub not_other : (d : Arc Cell Global) → f.region ≡ c.region → IsLawful terms after → RepliesWith terms before c.path f (OtherCell d) after → ⊥
     not_other d same lawful a = a.3 (same ∙ region_stands before b (subst (IsLawful terms) a.0 lawful) ∙ sym a.2)
 
 pub outcome_same : (R S : Area) (V W : ℕ) (last : Option Last) (o : Outcome) → R ≡ S → V ≡ W → (o ≡ Left Memory) ⊎ Refines R last V o → (o ≡ Left Memory) ⊎ Refines S last W o
@@ -146,52 +142,6 @@ few_more k n d list next l f (inr t) = omega (arith, l, f, ap length t.1, length
 
 pub done_from : (terms : Terms) (k : ℕ) (first before after : History) → Begins first before → IsRoundDone terms k before after → IsRoundDone terms k first after
 done_from terms k first before after b d = record { between = d.between; begins = begins_trans first before d.between b d.begins; grows = d.grows; done = d.done; all = d.all; lawful = d.lawful }
-
--- who has worked may go on
-pub may_go_on : (atlas : TurnId Terms) (shift : Shift) (pass now : Seen Entry Terms) (seat later : SeatOf) → MayWork atlas shift pass seat → HasWorked atlas shift pass.seen now later → MayWork atlas shift now later
-may_go_on atlas shift pass now seat later m h = record {
-  own = h.own;
-  of = h.of;
-  places = m.places;
-  lawful = h.lawful;
-  work = record {
-    start = m.work.start;
-    round = m.work.round;
-    begins = begins_trans m.work.start pass.seen now.seen m.work.begins h.seen;
-    is_round = m.work.is_round;
-    are_cells = m.work.are_cells;
-  };
-}
-
--- what was found stays so where more is seen
-pub found_later : (terms : Terms) (seen now : History) (offer : Offered) → Begins seen now → IsFoundIn terms seen offer → IsFoundIn terms now offer
-found_later terms seen now offer b f = record {
-  last = f.last;
-  cell = f.cell;
-  work = record { start = f.work.start; round = f.work.round; begins = begins_trans f.work.start seen now f.work.begins b; is_round = f.work.is_round; is_cell = f.work.is_cell };
-  path = f.path;
-  region = f.region;
-  w = f.w;
-  outcome = f.outcome;
-}
-
--- what a commit of it asks, and what its answer can't be
-module _ (terms : Terms) (seen : History) (offer : Offered) (f : IsFoundIn terms seen offer) where
-  pub found_short : IsShortCut offer.path offer.finding.outcome
-  found_short = subst (λ (p : List Side). IsShortCut p offer.finding.outcome) (sym f.path) (short terms seen f.last f.cell f.work offer.finding f.outcome)
-
-  pub found_fits : AreTerms terms → (start : History) × Begins start seen × ((L : Budget) → terms.plan ≡ Some L → FitsPlan terms.root L start offer.path offer.finding.outcome)
-  found_fits bounds =
-      subst (λ (p : List Side). (start : History) × Begins start seen × ((L : Budget) → terms.plan ≡ Some L → FitsPlan terms.root L start p offer.finding.outcome)) (sym f.path)
-      (fits terms seen f.last f.cell f.work offer.finding f.outcome bounds)
-
-  pub found_there : (before after : History) → Begins seen before → (p : List Side) → RepliesWith terms before offer.path offer.finding (NotThere p) after → ⊥
-  found_there before after b p a =
-      not_there terms seen f.last f.cell f.work offer.finding before after b p (subst (λ (q : List Side). RepliesWith terms before q offer.finding (NotThere p) after) f.path a)
-
-  pub found_same : (before after : History) → Begins seen before → (d : Arc Cell Global) → IsLawful terms after → RepliesWith terms before offer.path offer.finding (OtherCell d) after → ⊥
-  found_same before after b d lawful a =
-      not_other terms seen f.last f.cell f.work offer.finding before after b d f.region lawful (subst (λ (q : List Side). RepliesWith terms before q offer.finding (OtherCell d) after) f.path a)
 
 -- many cells
 module _ (terms : Terms) (seen : History) (last : Option Last) (cells : List WaitingCell) (w : AreWork terms seen last cells) (now : History) (b : Begins seen now) where

@@ -1,6 +1,7 @@
 -- The cells of a round, and what the workers know of them.
 use Rattle.std.specs.Prelude.{◌≡◌, ◌⊎◌, ℕ, ◌<◌, ◌≤◌, List, [], ◌∷◌, ◌++◌, length, slice_get, IsSome, Some, None}
 use Rattle.std.specs.declared.option.Option.{Option}
+use Rattle.srs_plane.specs.Regions.{Area}
 use Rattle.srs_path.specs.declared.paths.Side.{Side}
 use Rattle.srs_path.specs.declared.limits.Last.{Last}
 use Rattle.srs_path.specs.Views.{Budget, Entry}
@@ -11,9 +12,7 @@ use Rattle.srs_tree.specs.Tree.{History, outcome_at, IsCellOf, region_at}
 use Rattle.srs_tree.specs.Rounds.{last_in}
 use Rattle.srs_tree.specs.Queue.{WaitingCell}
 use Rattle.srs_atlas.specs.declared.book.Terms.{Terms}
-use Rattle.srs_refine.specs.Found.{IsFoundOf}
 use Rattle.srs_atlas.specs.Books.{IsLawful}
-use Rattle.srs_atlas.specs.Offers.{Offered}
 use Rattle.srs_crew.specs.declared.rounds.Job.{Job}
 use Rattle.srs_crew.specs.declared.workers.Shift.{Shift}
 
@@ -40,16 +39,6 @@ pub record IsWork (terms : Terms) (seen : History) (last : Option Last) (c : Wai
   pub begins : Begins start seen
   pub is_round : IsRound terms start round last
   pub is_cell : IsOfRound terms start round c
-
--- what is offered was found of a cell of a round at a beginning of what was seen
-pub record IsFoundIn (terms : Terms) (seen : History) (offer : Offered) : Type 0 where
-  pub last : Option Last
-  pub cell : WaitingCell
-  pub work : IsWork terms seen last cell
-  pub path : offer.path ≡ cell.path
-  pub region : offer.finding.region ≡ cell.region
-  pub w : offer.finding.w ≡ terms.w
-  pub outcome : IsFoundOf cell.region last terms.w offer.finding.outcome
 
 -- by the plan, if there is one, round k may be refined where some beginning of H was seen
 pub record WasPlanRound (terms : Terms) (H : History) (k : ℕ) (last : Option Last) : Type 0 where

@@ -86,12 +86,11 @@ fn beside<R: Threads + Wait + Sync, G: Gate>(
     ensures told { IfOk result
         (AreToldIn atlas.now.fixed.root pass.old.seen pass.new.seen job.now.round script.now) }
 {
-    let workers = started(job.workers, cells.len());
-    let Ok((claims, seat)) = Claims::new(alloc, cells.len(), workers as u64 + 1) else {
+    let workers = at_work(job.workers, cells.len());
+    let Ok((claims, seat)) = Claims::new(alloc, cells.len(), workers as u64) else {
         return Err(NoMemory);
     };
     let first = atlas.split_pass(pass);
-    let more = taken_besides(workers, cells.len());
     let shift = Shift {
         alloc,
         cells,
@@ -99,7 +98,6 @@ fn beside<R: Threads + Wait + Sync, G: Gate>(
         claims,
         round: job.round,
         workers,
-        more,
     };
     let (back, told) = crew_and_sessions(
         rt,
@@ -116,7 +114,7 @@ fn beside<R: Threads + Wait + Sync, G: Gate>(
 }
 
 // How many of the workers are started: no more than there are cells, and at least one.
-fn started(workers: u32, cells: u64) -> u32
+fn at_work(workers: u32, cells: u64) -> u32
     requires { 1 ≤ workers }
     ensures { (1 ≤ result) × (result ≤ workers) }
 {
@@ -125,18 +123,6 @@ fn started(workers: u32, cells: u64) -> u32
     } else {
         workers
     }
-}
-
-// How many cells a worker takes besides one before it commits what it found: none where it is alone
-// or the cells are few, so that each worker has its share of them.
-fn taken_besides(workers: u32, cells: u64) -> u32
-    requires { 1 ≤ workers }
-    ensures { result ≤ 7 }
-{
-    if workers == 1 {
-        return 0;
-    }
-    (cells / (workers as u64 * 16)).min(7) as u32
 }
 
 // Settles the cells of the round that still wait. An `Err` is want of memory.

@@ -9,7 +9,7 @@ ghost use Rattle.srs_session.specs.Playing.{IsPlayed};
 ghost use Rattle.srs_crew.specs.Rounds.{MayWork};
 ghost use Rattle.srs_crew.specs.Telling.{AreEarly, AreToldIn, IsOneMore};
 
-use crate::workers::{Shift, at_work};
+use crate::workers::{Shift, crew};
 use srs_atlas::{Atlas, AtlasPass};
 use srs_claim::ClaimSeat;
 use srs_num::NoMemory;
@@ -106,7 +106,7 @@ pub(crate) fn crew_and_sessions<R: Threads + Wait + Sync, G: Gate>(
     n: u64,
 ) -> (AtlasPass, Result<Transcripts, NoMemory>)
     requires work { MayWork atlas.now shift.now pass seat }
-    requires workers { (1 ≤ shift.now.workers) × (shift.now.workers ≤ seat.spare) }
+    requires workers { (1 ≤ shift.now.workers) × (shift.now.workers ≤ seat.spare + 1) }
     requires within { (n ≤ length script.now) × (n ≤ 8) }
     ensures own { IsPassOf atlas.now result.0 }
     ensures seen { Begins pass.seen result.0.seen }
@@ -116,7 +116,7 @@ pub(crate) fn crew_and_sessions<R: Threads + Wait + Sync, G: Gate>(
 {
     let alloc = shift.alloc;
     if n == 0 {
-        let (pass, _seat) = at_work(rt, atlas, shift, pass, seat, gate);
+        let (pass, _seat) = crew(rt, atlas, shift, pass, seat, gate, shift.workers);
         return (pass, Ok(Transcripts::new(alloc)));
     }
     let session = script.get(n - 1);
@@ -131,7 +131,7 @@ pub(crate) fn crew_and_sessions<R: Threads + Wait + Sync, G: Gate>(
         move ||
             requires work { MayWork atlas.now shift.now pass seat }
             requires workers { (1 ≤ shift.now.workers) ×
-                (shift.now.workers ≤ seat.spare) }
+                (shift.now.workers ≤ seat.spare + 1) }
             requires within { (1 ≤ n) × (n ≤ length script.now) × (n ≤ 8) }
             requires sync { IsSync R.row }
             ensures own { IsPassOf atlas.entry.now result.0 }

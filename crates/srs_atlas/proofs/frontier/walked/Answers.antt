@@ -1,5 +1,7 @@
 -- The next cell.
 use Rattle.std.proofs.Common.{◌∙◌, ap, sym, subst, Some}
+use Rattle.std.specs.declared.option.Option.{Option}
+use Rattle.std.proofs.Common.{ℕ}
 use Rattle.srs_tree.specs.Queue.{WaitingCell}
 use Rattle.srs_atlas.proofs.Walking.{IsWalk, walk_has, walk_step}
 use Rattle.srs_atlas.proofs.frontier.walked.Goals as goal

@@ -1,5 +1,5 @@
 -- What was listed comes before the slot.
-use Rattle.std.proofs.Common.{◌-◌, length}
+use Rattle.std.proofs.Common.{◌-◌, length, vec_len}
 use Rattle.srs_atlas.proofs.Walking.{IsWalk}
 use Rattle.srs_atlas.proofs.frontier.walked.Given as goal
 

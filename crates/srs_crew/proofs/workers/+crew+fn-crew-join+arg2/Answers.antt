@@ -8,7 +8,7 @@ use Rattle.srs_crew.proofs.workers.+crew+fn-crew-join+arg2.Given as given
 use Rattle.srs_crew.proofs.workers.+crew+fn-crew-join+arg2.Lts-crew as lts
 use Rattle.srs_crew.proofs.workers.+crew+fn-crew-join+arg2.Goals as goal
 
-worker_send : (g : given.Over) (κs : Lfts 14) → IsSync g.row.R → IsSync g.row.G → IsSend (lts.arg-2-1 g.row.R g.row.G g.R.laws g.G.laws g.R.Threads-dict g.R.Wait-dict g.G.Gate-dict κs)
+worker_send : (g : given.Over) (κs : Lfts 14) → IsSync g.row.R → IsSync g.row.G → IsSend (lts.arg-3-1 g.row.R g.row.G g.R.laws g.G.laws g.R.Threads-dict g.R.Wait-dict g.G.Gate-dict κs)
 worker_send g κs r s = search (sendable, crosses, held) depth 60
 
 pub join-first-requires-send-F : goal.join-first-requires-send-F

@@ -1,5 +1,5 @@
 -- The first part goes again where the second finds no memory.
-use Rattle.std.proofs.Common.{◌≡◌, ◌∙◌, sym, ap, subst, true}
+use Rattle.std.proofs.Common.{◌≡◌, ◌∙◌, sym, ap, subst, true, List}
 use Rattle.std.specs.Prelude.{is_err}
 use Rattle.std.specs.declared.option.Option.{Option}
 use Rattle.srs_atlas.specs.Frontiers.{LackPaths, LacksPath}
